@@ -1,0 +1,4 @@
+pub mod Bytes
+pub mod CodeBack
+pub mod Tables
+pub mod Rows
