@@ -1,5 +1,5 @@
 -- The sets that need no table: their units, what they can spell, and how.
-use Rattle.std.specs.Prelude.{◌≡◌, ℕ, ◌≤◌, List, [], ◌∷◌, Option, Some}
+use Rattle.std.specs.Prelude.{◌≡◌, ℕ, ◌≤◌, Bool, true, false, IsTrue, List, [], ◌∷◌, Option, Some}
 use Rattle.std.specs.List.{flat_map}
 use Rattle.step_unicode.specs.declared.set.Uni.{Uni}
 use Rattle.step_unicode.specs.declared.set.Uni.TheVariants.{Ascii, Utf8, Utf16, Utf16Le, Utf16Be, Ucs4}
@@ -11,18 +11,34 @@ use Rattle.step_unicode.specs.Utf16.{little, big, little_bytes, big_bytes, IsUtf
 use Rattle.step_unicode.specs.Ucs4.{IsUcs4Unit, ucs4}
 use Rattle.unit_relations.specs.Spellings.{Spelling}
 
--- the states in which a set can be: UTF-16 has no order, or one of the two
+-- whether a state is the initial one
+abbrev pub is_plain : State → Bool
+is_plain Plain = true
+is_plain Little = false
+is_plain Big = false
+is_plain Roman = false
+is_plain Kanji = false
+
+-- whether a state is one of UTF-16: no order yet, or one of the two
+abbrev pub is_order : State → Bool
+is_order Plain = true
+is_order Little = true
+is_order Big = true
+is_order Roman = false
+is_order Kanji = false
+
+-- whether a set can be in a state
+abbrev pub is_state_of : Uni → State → Bool
+is_state_of Utf16 s = is_order s
+is_state_of Ascii s = is_plain s
+is_state_of Utf8 s = is_plain s
+is_state_of Utf16Le s = is_plain s
+is_state_of Utf16Be s = is_plain s
+is_state_of Ucs4 s = is_plain s
+
+-- the states in which a set can be
 abbrev pub IsStateOf : Uni → State → Type 0
-IsStateOf Utf16 Plain = Unit {0}
-IsStateOf Utf16 Little = Unit {0}
-IsStateOf Utf16 Big = Unit {0}
-IsStateOf Utf16 Roman = ⊥
-IsStateOf Utf16 Kanji = ⊥
-IsStateOf Ascii s = s ≡ Plain
-IsStateOf Utf8 s = s ≡ Plain
-IsStateOf Utf16Le s = s ≡ Plain
-IsStateOf Utf16Be s = s ≡ Plain
-IsStateOf Ucs4 s = s ≡ Plain
+IsStateOf set s = IsTrue (is_state_of set s)
 
 -- the byte of a point below 80
 abbrev pub IsAsciiUnit : List ℕ → ℕ → Type 0
