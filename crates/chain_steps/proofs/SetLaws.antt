@@ -1,13 +1,13 @@
 -- What holds of every set of a chain over well formed tables.
 use Rattle.std.proofs.Common.{◌≡◌, ℕ, ◌∷◌, List, [], Option, Some, None, refl, ap, sym, ◌∙◌, subst}
-use Rattle.code_pairs.specs.Tables.{Tables}
+use Rattle.code_pairs.specs.Tables.{Tables, table_at}
 use Rattle.unit_relations.specs.Units.{AreApart, HaveBytes}
 use Rattle.unit_relations.specs.Spellings.{Joins, IsShort, IsOneWay}
 use Rattle.unit_relations.proofs.OneMeaning.{IsDetermined}
 use Rattle.step_unicode.specs.declared.set.State.{State}
 use Rattle.step_unicode.specs.declared.set.State.TheVariants.{Plain}
 use Rattle.chain_steps.specs.declared.recipe.Set.{Set}
-use Rattle.chain_steps.specs.declared.recipe.Set.TheVariants.{Unicode}
+use Rattle.chain_steps.specs.declared.recipe.Set.TheVariants.{Unicode, Table}
 use Rattle.chain_steps.specs.Sets.{IsUnitOf, IsSpellableIn, spelling_in, IsStateIn, AreWellFormed}
 use Rattle.step_unicode.specs.declared.set.Unit.TheVariants.{Got}
 use Rattle.step_unicode.specs.declared.wrote.Wrote.{Wrote}
@@ -16,30 +16,44 @@ use Rattle.chain_steps.specs.declared.recipe.Joint.{Joint}
 use Rattle.chain_steps.specs.Carry.{GoesThrough, GoesThroughAll, Carries}
 use Rattle.step_unicode.proofs.Apart.{are_apart}
 use Rattle.step_unicode.proofs.States as unicode
+use Rattle.step_table.proofs.Codes as table
+use Rattle.step_table.specs.Sets.{spelled}
+use Rattle.std.proofs.lemmas.List.Concat.{flat_map-append}
 
 -- in one state no unit of a set begins another, and a unit gives one answer and leads to one state
 pub units_apart : (ts : Tables) → AreWellFormed ts → (set : Set) → AreApart (IsUnitOf ts set)
 units_apart ts well (Unicode set) = are_apart set
+units_apart ts well (Table k) = table.are_apart (table_at ts k) (well k)
 
 -- a unit has bytes
 pub units_have_bytes : (ts : Tables) → AreWellFormed ts → (set : Set) → HaveBytes (IsUnitOf ts set)
 units_have_bytes ts well (Unicode set) = unicode.have_bytes set
+units_have_bytes ts well (Table k) = table.have_bytes (table_at ts k) (well k)
 
 -- a spelling joins
 pub spellings_join : (ts : Tables) (set : Set) → Joins (spelling_in ts set)
 spellings_join ts (Unicode set) = unicode.joins set
+spellings_join ts (Table k) = record {
+  nothing = λ s. refl;
+  stays = λ s. refl;
+  bytes = λ s q r. flat_map-append (spelled (table_at ts k)) q r;
+  after = λ s q r. refl;
+}
 
 -- a point has at most eight bytes
 pub spellings_short : (ts : Tables) → AreWellFormed ts → (set : Set) → IsShort (spelling_in ts set)
 spellings_short ts well (Unicode set) = unicode.short set
+spellings_short ts well (Table k) = table.is_short (table_at ts k) (well k)
 
 -- a unit leads to a state of its set
 pub unit_leads : (ts : Tables) (set : Set) (s : State) (u : List ℕ) (q : Option ℕ) (t : State) → IsStateIn set s → IsUnitOf ts set s u q t → IsStateIn set t
 unit_leads ts (Unicode set) s u q t at unit = unicode.unit_leads set s u q t at unit
+unit_leads ts (Table k) s u q t at (p, unit, e, same) = subst (λ z. IsStateIn (Table k) z) (sym same) at
 
 -- and so does the spelling of points
 pub spelling_leads : (ts : Tables) (set : Set) (s : State) (q : List ℕ) → IsStateIn set s → IsStateIn set ((spelling_in ts set).after s q)
 spelling_leads ts (Unicode set) s q at = unicode.spelling_leads set s q at
+spelling_leads ts (Table k) s q at = at
 
 -- a point becomes one point in a joint
 pub joint_is_one : (ts : Tables) → AreWellFormed ts → (j : Joint) (p m n : ℕ) → GoesThrough ts j p m → GoesThrough ts j p n → m ≡ n
@@ -88,6 +102,7 @@ lacking ts well js writer p m through lacks r (n, other, has, e) =
 -- the initial state is one of every set
 pub plain_is_state : (set : Set) → IsStateIn set Plain
 plain_is_state (Unicode set) = unicode.plain_is_state set
+plain_is_state (Table k) = refl
 
 -- what a point becomes in a joint over tables that are the same
 pub moved_joint : (us ts : Tables) (j : Joint) (p r : ℕ) → us ≡ ts → GoesThrough us j p r → GoesThrough ts j p r

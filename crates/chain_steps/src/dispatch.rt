@@ -7,10 +7,12 @@ ghost use Rattle.chain_steps.specs.Carry.{Carries, AreInRange};
 
 use crate::between::Between;
 use crate::loops::{Stopping, convert_with};
-use crate::read::{ReadAscii, ReadSet, ReadUcs4, ReadUtf8, ReadUtf16, ReadUtf16Be, ReadUtf16Le};
+use crate::read::{
+    ReadAscii, ReadSet, ReadTable, ReadUcs4, ReadUtf8, ReadUtf16, ReadUtf16Be, ReadUtf16Le,
+};
 use crate::recipe::Set;
 use crate::write::{
-    WriteAscii, WriteSet, WriteUcs4, WriteUtf8, WriteUtf16, WriteUtf16Be, WriteUtf16Le,
+    WriteAscii, WriteSet, WriteTable, WriteUcs4, WriteUtf8, WriteUtf16, WriteUtf16Be, WriteUtf16Le,
 };
 use code_table::Lookup;
 use step_unicode::{State, Uni};
@@ -141,6 +143,18 @@ fn convert_from<R: ReadSet, B: Between, T: Lookup>(
         Set::Unicode(Uni::Ucs4) => convert_as(
             reader, from, between, &WriteUcs4, to, tables, reading, writing, input, output,
         ),
+        Set::Table(table) => convert_as(
+            reader,
+            from,
+            between,
+            &WriteTable { table },
+            to,
+            tables,
+            reading,
+            writing,
+            input,
+            output,
+        ),
     }
 }
 
@@ -207,6 +221,17 @@ pub fn convert_between<B: Between, T: Lookup>(
         ),
         Set::Unicode(Uni::Ucs4) => convert_from(
             &ReadUcs4, from, between, to, tables, reading, writing, input, output,
+        ),
+        Set::Table(table) => convert_from(
+            &ReadTable { table },
+            from,
+            between,
+            to,
+            tables,
+            reading,
+            writing,
+            input,
+            output,
         ),
     }
 }

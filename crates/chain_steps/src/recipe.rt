@@ -12,6 +12,8 @@ use unit_relations::Verdict;
 pub enum Set {
     /// A set that needs no table.
     Unicode(Uni),
+    /// The set of a table, by the table's number.
+    Table(u32),
 }
 
 /// A set of bytes in the middle of a chain: what one conversion writes, the next one reads.

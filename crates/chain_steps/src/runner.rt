@@ -145,6 +145,7 @@ fn write_return(set: Set, _state: State, _output: &mut [u8]) -> Reset
 {
     match set {
         Set::Unicode(_) => Reset::Closed { produced: 0 },
+        Set::Table(_) => Reset::Closed { produced: 0 },
     }
 }
 
