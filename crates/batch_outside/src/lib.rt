@@ -16,9 +16,9 @@ mod tests;
 
 // pub use disk::DiskFiles;
 pub use file_sets::{Files, Put, Taken};
-// pub use shelf_files::ShelfFiles;
-// pub use shelf_sink::ShelfSink;
+pub use shelf_files::ShelfFiles;
+pub use shelf_sink::ShelfSink;
 pub use sinks::{Sent, Sink};
 // pub use standard_output::StdoutSink;
-// pub use sure_files::SureFiles;
-// pub use sure_sink::SureSink;
+pub use sure_files::SureFiles;
+pub use sure_sink::SureSink;
