@@ -3,7 +3,7 @@
 use std::alloc::Global;
 
 /// What came of taking a file.
-#[derive(Drop)]
+#[derive(Debug, PartialEq, Eq, Drop)]
 pub enum Taken {
     /// All its bytes.
     Bytes(Vec<u8>),

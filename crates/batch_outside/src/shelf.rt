@@ -77,7 +77,10 @@ impl Shelf {
             record { name = name.now; bytes = bytes.now } ∷ self.old) }
         ensures err { OnErr result (self.new ≡ self.old) }
     {
-        let file = (String::from_str(alloc, name)?, Vec::from_slice(alloc, bytes)?);
+        let file = (
+            String::from_str(alloc, name)?,
+            Vec::from_slice(alloc, bytes)?,
+        );
         self.files.insert(0, file)?;
         Ok(())
     }
