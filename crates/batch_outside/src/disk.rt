@@ -1,7 +1,6 @@
 //! The files of the machine.
 
-ghost use Rattle.std.specs.Prelude.{◌≡◌, ◌≤◌, IfOk, vec_len};
-ghost use Rattle.std.specs.IoError.{error_kind};
+ghost use Rattle.std.specs.Prelude.{◌≡◌};
 
 use crate::file_sets::{Files, Put, Taken};
 use std::alloc::Global;
@@ -21,7 +20,7 @@ pub struct DiskFiles<'a, R: std::rt::Files> {
 }
 
 impl<'a, R: std::rt::Files> Model for DiskFiles<'a, R> {
-    ghost use Rattle.batch_outside.specs.Stored.{FaultCounts};
+    ghost use Rattle.batch_outside.specs.Faults.{FaultCounts};
 
     ghost Value = { FaultCounts };
 

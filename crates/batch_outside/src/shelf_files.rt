@@ -1,6 +1,6 @@
 //! A set of files in memory, of which calls may be told to fail.
 
-ghost use Rattle.std.specs.Prelude.{◌≡◌, ◌≤◌, ◌↔◌, ◌+◌, ◌-◌, ◌^◌, Option, Some, None, IfSome, MatchOption, min};
+ghost use Rattle.std.specs.Prelude.{◌≡◌, ◌≤◌, ◌↔◌, Some, MatchOption};
 ghost use Rattle.batch_outside.specs.Faults.{Rose};
 ghost use Rattle.batch_outside.specs.Shelves.{content_of};
 ghost use Rattle.batch_outside.specs.Takes.{Takes, FitsLimit};

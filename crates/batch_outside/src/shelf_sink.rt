@@ -1,6 +1,6 @@
 //! A sink in memory, of which calls may be told to fail.
 
-ghost use Rattle.std.specs.Prelude.{◌≡◌, ◌≤◌, ◌++◌, [], Option, Some, None};
+ghost use Rattle.std.specs.Prelude.{◌≡◌, ◌≤◌, [], Some};
 ghost use Rattle.batch_outside.specs.Faults.{Rose};
 ghost use Rattle.batch_outside.specs.FaultPlans.{IsDue, called};
 ghost use Rattle.batch_outside.specs.Sends.{Sends};

@@ -1,6 +1,6 @@
 //! A set of files in memory that never fails.
 
-ghost use Rattle.std.specs.Prelude.{◌≡◌, Option, Some, None, MatchOption};
+ghost use Rattle.std.specs.Prelude.{◌≡◌, Some, MatchOption};
 ghost use Rattle.batch_outside.specs.Shelves.{content_of};
 ghost use Rattle.batch_outside.specs.Stored.{shelf_of};
 

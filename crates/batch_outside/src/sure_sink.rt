@@ -1,6 +1,6 @@
 //! A sink in memory that never fails.
 
-ghost use Rattle.std.specs.Prelude.{◌≡◌, [], Option, Some, None, IfSome};
+ghost use Rattle.std.specs.Prelude.{◌≡◌, [], IfSome};
 
 use crate::sinks::{Sent, Sink};
 use std::alloc::Global;
