@@ -1,0 +1,5 @@
+use Rattle.step_unicode.proofs.Apart.{are_apart}
+use Rattle.step_unicode.proofs.laws.units_are_apart.Goals as goal
+
+pub returns-clause-apart : goal.returns-clause-apart
+returns-clause-apart c = are_apart

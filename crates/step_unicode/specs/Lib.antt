@@ -1,0 +1,6 @@
+pub mod Points
+pub mod Utf8
+pub mod Utf16
+pub mod Ucs4
+pub mod Sets
+pub mod Answers

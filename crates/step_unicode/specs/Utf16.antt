@@ -1,0 +1,81 @@
+-- UTF-16 (RFC 2781): one number of 16 bits for a point up to FFFF, else a pair of surrogates.
+use Rattle.std.specs.Prelude.{◌≡◌, ◌≢◌, ℕ, ◌+◌, ◌-◌, ◌*◌, ◌/◌, ◌%◌, ◌⊎◌, List, [], ◌∷◌, ◌++◌, Option, Some, None, nat_lt, if◌then◌else◌}
+use Rattle.std.specs.List.{flat_map}
+use Rattle.step_unicode.specs.Points.{InRange, IsByte, IsPoint}
+use Rattle.step_unicode.specs.declared.set.State.{State}
+use Rattle.step_unicode.specs.declared.set.State.TheVariants.{Plain, Little, Big, Roman, Kanji}
+
+-- the number that two bytes are in the little order
+abbrev pub little : ℕ → ℕ → ℕ
+little a b = a + 256 * b
+
+-- the number that two bytes are in the big order
+abbrev pub big : ℕ → ℕ → ℕ
+big a b = 256 * a + b
+
+-- the bytes are the point p in an order
+abbrev pub IsUtf16Unit : (ℕ → ℕ → ℕ) → List ℕ → ℕ → Type 0
+IsUtf16Unit number (a ∷ b ∷ []) p = IsByte a × IsByte b × IsPoint p × (p ≡ number a b)
+IsUtf16Unit number (a ∷ b ∷ c ∷ d ∷ []) p = IsByte a × IsByte b × IsByte c × IsByte d
+    × InRange 0xD800 0xDBFF (number a b) × InRange 0xDC00 0xDFFF (number c d)
+    × (p + 0xD800 * 1024 + 0xDC00 ≡ 0x10000 + number a b * 1024 + number c d)
+IsUtf16Unit number _ p = ⊥
+
+-- the bytes of a number in the little order
+abbrev pub little_bytes : ℕ → List ℕ
+little_bytes n = (n % 256) ∷ (n / 256) ∷ []
+
+-- the bytes of a number in the big order
+abbrev pub big_bytes : ℕ → List ℕ
+big_bytes n = (n / 256) ∷ (n % 256) ∷ []
+
+-- how UTF-16 spells a point in an order
+abbrev pub utf16 : (ℕ → List ℕ) → ℕ → List ℕ
+utf16 bytes p =
+    if nat_lt p 0x10000 then bytes p
+    else bytes (0xD800 + (p - 0x10000) / 1024) ++ bytes (0xDC00 + (p - 0x10000) % 1024)
+
+-- the mark of the big order
+abbrev pub big_mark : List ℕ
+big_mark = 0xFE ∷ 0xFF ∷ []
+
+-- the mark of the little order
+abbrev pub little_mark : List ℕ
+little_mark = 0xFF ∷ 0xFE ∷ []
+
+-- the first unit of a text of UTF-16: a mark, which gives no point, or a unit of the little order
+abbrev pub IsFirstUnit : List ℕ → Option ℕ → State → Type 0
+IsFirstUnit u q t =
+    ((u ≡ big_mark) × (q ≡ None) × (t ≡ Big))
+    ⊎ ((u ≡ little_mark) × (q ≡ None) × (t ≡ Little))
+    ⊎ ((u ≢ big_mark) × (u ≢ little_mark) × ((p : ℕ) × IsUtf16Unit little u p × (q ≡ Some p)) × (t ≡ Little))
+
+-- a unit of UTF-16 where its order is known
+abbrev pub IsOrderedUnit : (ℕ → ℕ → ℕ) → State → List ℕ → Option ℕ → State → Type 0
+IsOrderedUnit number s u q t = (p : ℕ) × IsUtf16Unit number u p × (q ≡ Some p) × (t ≡ s)
+
+-- a unit of UTF-16 in each state
+abbrev pub IsMarkedUnit : State → List ℕ → Option ℕ → State → Type 0
+IsMarkedUnit Plain u q t = IsFirstUnit u q t
+IsMarkedUnit Little u q t = IsOrderedUnit little Little u q t
+IsMarkedUnit Big u q t = IsOrderedUnit big Big u q t
+IsMarkedUnit Roman u q t = ⊥
+IsMarkedUnit Kanji u q t = ⊥
+
+-- how UTF-16 spells a list: with a mark before the first point, where no order was set
+abbrev pub marked : State → List ℕ → List ℕ
+marked Plain [] = []
+marked Plain (p ∷ q) = little_mark ++ flat_map (utf16 little_bytes) (p ∷ q)
+marked Little q = flat_map (utf16 little_bytes) q
+marked Big q = flat_map (utf16 big_bytes) q
+marked Roman q = flat_map (utf16 little_bytes) q
+marked Kanji q = flat_map (utf16 little_bytes) q
+
+-- the order that a list leaves
+abbrev pub after_marked : State → List ℕ → State
+after_marked Plain [] = Plain
+after_marked Plain (p ∷ q) = Little
+after_marked Little q = Little
+after_marked Big q = Big
+after_marked Roman q = Roman
+after_marked Kanji q = Kanji

@@ -1,0 +1,19 @@
+//! One unit read or one point written, in the sets that need no table: ASCII, UTF-8, UTF-16 with
+//! and without marks, and UCS-4.
+#![tactic(auto)]
+
+pub mod ascii;
+mod laws;
+mod set;
+mod small;
+pub mod ucs4;
+mod units;
+pub mod utf16;
+pub mod utf8;
+mod wrote;
+
+pub use laws::{spellings_join, units_are_apart};
+pub use set::{State, Uni, Unit};
+pub use small::Small;
+pub use units::{read_unit, write_unit};
+pub use wrote::Wrote;

@@ -1,0 +1,5 @@
+pub mod Units
+pub mod Spellings
+pub mod Calls
+pub mod Meaning
+pub mod Laws
