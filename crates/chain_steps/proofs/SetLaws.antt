@@ -25,7 +25,7 @@ use Rattle.step_iso2022jp.specs.Shifts.{IsShiftState}
 use Rattle.step_iso2022jp.specs.Sets.{IsJpUnit}
 use Rattle.std.proofs.lemmas.List.Concat.{flat_map-append}
 
--- the two forms of a test of states
+-- a state of ISO-2022-JP passes the test, and what passes it is one
 pub shift_state : (s : State) → IsTrue (is_shift s) → IsShiftState s
 shift_state Plain is = tt
 shift_state Roman is = tt
