@@ -8,7 +8,9 @@ use Rattle.std.proofs.Math.Seq.{take-append_seam}
 use Rattle.std.proofs.lemmas.Bool.{cases_Bool, cases_eq, eq-eqb, ne_eqb}
 use Rattle.std.proofs.lemmas.Slice.Eq.{bytes_eq-Decides}
 use Rattle.code_pairs.specs.Tables.{Table, point_of, IsCode, IsWellFormed}
-use Rattle.code_table.specs.Looks.{is_proper_prefix, codes_of, found, look_of, IsPrefixOfCode, BeginsWithCode, IsLook}
+use Rattle.trie.specs.Fronts.{is_proper_prefix}
+use Rattle.trie.proofs.Firsts.{first_is, none_is}
+use Rattle.code_table.specs.Looks.{codes_of, found, look_of, IsPrefixOfCode, BeginsWithCode, IsLook}
 use Rattle.code_table.specs.declared.lookup.Look.{Look}
 use Rattle.code_table.specs.declared.lookup.Look.TheVariants.{Point, Prefix, Nothing}
 
@@ -35,37 +37,8 @@ more-goes_on (x ∷ xs) (y ∷ ys) h = elim (cases_eq x y) [
   | inr n ↦ absurd (true_false (sym (rw (ne_eqb x y n) at h)))
 ]
 
--- The first of some answers comes from one of the numbers.
-first_is : (f : ℕ → Option Look) (a n : ℕ) (w : Look) → slice_get (filter_map f (range_with_len a n)) 0 ≡ Some w →
-    (u : ℕ) × (a ≤ u) × (u < a + n) × (f u ≡ Some w)
-first_is f a zero w e = absurd (some_none (sym e))
-first_is f a (suc n) w e = by (f a) refl (λ later. first_is f (a + 1) n w later)
-  where
-    same_some : {v : Look} → Some v ≡ Some w → v ≡ w
-    same_some h = cc
-
-    by : (o : Option Look) → f a ≡ o
-        → (slice_get (filter_map f (range_with_len (a + 1) n)) 0 ≡ Some w → (u : ℕ) × (a + 1 ≤ u) × (u < a + 1 + n) × (f u ≡ Some w))
-        → (u : ℕ) × (a ≤ u) × (u < a + suc n) × (f u ≡ Some w)
-    by (Some v) is rest = (a, omega arith, omega arith, is ∙ ap Some (same_some (sym (ap (λ o. slice_get (cons_option o (filter_map f (range_with_len (a + 1) n))) 0) is) ∙ e)))
-    by None is rest =
-        let later = rest (sym (ap (λ o. slice_get (cons_option o (filter_map f (range_with_len (a + 1) n))) 0) is) ∙ e) in
-        (later.0, omega (arith, later.1), omega (arith, later.2), later.3)
-
--- Where there is no first answer, no number has one.
-none_is : (f : ℕ → Option Look) (a n : ℕ) → slice_get (filter_map f (range_with_len a n)) 0 ≡ None → (u : ℕ) → a ≤ u → u < a + n → f u ≡ None
-none_is f a zero e u low high = absurd (omega arith)
-none_is f a (suc n) e u low high = by (f a) refl (λ later more less. none_is f (a + 1) n later u more less)
-  where
-    by : (o : Option Look) → f a ≡ o → (slice_get (filter_map f (range_with_len (a + 1) n)) 0 ≡ None → a + 1 ≤ u → u < a + 1 + n → f u ≡ None) → f u ≡ None
-    by (Some v) is rest = absurd (some_none (sym (ap (λ o. slice_get (cons_option o (filter_map f (range_with_len (a + 1) n))) 0) is) ∙ e))
-    by None is rest = elim (cases_eq a u) [
-      | inl same ↦ ap f (sym same) ∙ is
-      | inr other ↦ rest (sym (ap (λ o. slice_get (cons_option o (filter_map f (range_with_len (a + 1) n))) 0) is) ∙ e) (omega arith) (omega arith)
-    ]
-
 -- A code that goes on is a code of some point.
-code_beyond : (table : Table) (bytes : List ℕ) → list_any (is_proper_prefix bytes) (codes_of table) ≡ true →
+pub code_beyond : (table : Table) (bytes : List ℕ) → list_any (is_proper_prefix bytes) (codes_of table) ≡ true →
     (code : List ℕ) × (point : ℕ) × (is_proper_prefix bytes code ≡ true) × IsCode table code point
 code_beyond [] bytes h = absurd (true_false (sym h))
 code_beyond (p ∷ ps) bytes h = elim (cases_Bool (is_proper_prefix bytes p.code)) [
@@ -79,7 +52,7 @@ code_beyond (p ∷ ps) bytes h = elim (cases_Bool (is_proper_prefix bytes p.code
 ]
 
 -- A code of some point is one of the codes.
-beyond_code : (table : Table) (bytes code : List ℕ) (point : ℕ) → is_proper_prefix bytes code ≡ true → IsCode table code point →
+pub beyond_code : (table : Table) (bytes code : List ℕ) (point : ℕ) → is_proper_prefix bytes code ≡ true → IsCode table code point →
     list_any (is_proper_prefix bytes) (codes_of table) ≡ true
 beyond_code [] bytes code point h is = absurd (some_none (sym is))
 beyond_code (p ∷ ps) bytes code point h is = elim (cases_Bool (bytes_eq p.code code)) [

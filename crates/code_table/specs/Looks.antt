@@ -4,15 +4,9 @@ use Rattle.std.specs.List.{filter_map, list_any, range_with_len}
 use Rattle.std.specs.Option.{option_map}
 use Rattle.code_pairs.specs.Tables.{Table, point_of, IsCode}
 use Rattle.code_pairs.specs.declared.Pair.{Pair}
+use Rattle.trie.specs.Fronts.{is_proper_prefix}
 use Rattle.code_table.specs.declared.lookup.Look.{Look}
 use Rattle.code_table.specs.declared.lookup.Look.TheVariants.{Point, Prefix, Nothing}
-
--- Whether the second string begins with the first and goes on.
-abbrev pub is_proper_prefix : List ℕ → List ℕ → Bool
-is_proper_prefix [] [] = false
-is_proper_prefix [] (_ ∷ _) = true
-is_proper_prefix (x ∷ xs) [] = false
-is_proper_prefix (x ∷ xs) (y ∷ ys) = x == y && is_proper_prefix xs ys
 
 -- The codes of all pairs, in their order.
 abbrev pub codes_of : Table → List (List ℕ)
