@@ -1,1 +1,3 @@
 pub mod EmptyTable
+pub mod Scratch
+pub mod Feeds

@@ -6,7 +6,7 @@ ghost use Rattle.code_pairs.specs.Tables.{Tables};
 ghost use Rattle.step_unicode.specs.declared.set.State.TheVariants.{Plain};
 ghost use Rattle.chain_steps.specs.declared.recipe.Recipe.{Recipe};
 ghost use Rattle.chain_steps.specs.Chains.{ChainMeansWhole, CanRun};
-ghost use Rattle.step_buffers.specs.Held.{nothing_held, answer_of};
+ghost use Rattle.step_buffers.specs.Held.{nothing_held, answer_from, answer_of};
 ghost use Rattle.step_buffers.specs.Stands.{StandsFor};
 ghost use Rattle.step_buffers.specs.Ends.{verdict_at, offset_at, left_by};
 ghost use Rattle.step_buffers.specs.declared.answers.Fed.TheVariants.{Stopped};
@@ -170,7 +170,9 @@ impl Session {
 }
 
 /// Whether a stream goes on, and where it has stopped.
-fn answer(stopped: bool, offset: u64) -> Fed {
+fn answer(stopped: bool, offset: u64) -> Fed
+    ensures { result ≡ answer_from stopped offset }
+{
     if stopped {
         Fed::Stopped { offset }
     } else {
