@@ -1,3 +1,4 @@
 pub mod EmptyTable
 pub mod Scratch
 pub mod Feeds
+pub mod Ends

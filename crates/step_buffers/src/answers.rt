@@ -5,7 +5,7 @@
 pub enum Fed {
     /// The stream so far may go on.
     Going,
-    /// The stream is illegal at `offset`, in bytes from its begin, whatever follows.
+    /// The stream is illegal at `offset`, in bytes from its beginning, whatever follows.
     Stopped { offset: u64 },
 }
 

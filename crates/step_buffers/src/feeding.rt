@@ -52,7 +52,7 @@ fn take_piece<C: Converter>(
     ensures means { let m = C.machine converter.old in let n = C.machine converter.new in
         (w : List ℕ) × (output.new.items ≡ output.old.items ++ w)
         × ChainMeans (C.tables converter.old) m.recipe m.reading m.writing piece.now
-          w result.verdict result.consumed n.reading n.writing }
+        w result.verdict result.consumed n.reading n.writing }
     ensures room { vec_len output.new ≤ vec_len output.old + ROOM * length piece.now }
     ensures capacity { vec_capacity output.old ≤ vec_capacity output.new }
     ensures rest { result.verdict ≢ Illegal → tail.new.items ≡ drop result.consumed piece.now }
@@ -87,7 +87,7 @@ fn take_joined<C: Converter>(
     ensures means { let m = C.machine converter.old in let n = C.machine converter.new in
         (w : List ℕ) × (output.new.items ≡ output.old.items ++ w)
         × ChainMeans (C.tables converter.old) m.recipe m.reading m.writing (tail.old.items ++ piece.now)
-          w result.verdict result.consumed n.reading n.writing }
+        w result.verdict result.consumed n.reading n.writing }
     ensures room { vec_len output.new ≤ vec_len output.old + ROOM * (vec_len tail.old + length piece.now) }
     ensures capacity { vec_capacity output.old ≤ vec_capacity output.new }
     ensures rest { result.verdict ≢ Illegal → tail.new.items ≡ drop result.consumed (tail.old.items ++ piece.now) }
@@ -125,7 +125,7 @@ pub fn take_in<C: Converter>(
     ensures means { let m = C.machine converter.old in let n = C.machine converter.new in
         (w : List ℕ) × (output.new.items ≡ output.old.items ++ w)
         × ChainMeans (C.tables converter.old) m.recipe m.reading m.writing (tail.old.items ++ piece.now)
-          w result.verdict result.consumed n.reading n.writing }
+        w result.verdict result.consumed n.reading n.writing }
     ensures room { vec_len output.new ≤ vec_len output.old + ROOM * (vec_len tail.old + length piece.now) }
     ensures capacity { vec_capacity output.old ≤ vec_capacity output.new }
     ensures rest { result.verdict ≢ Illegal → tail.new.items ≡ drop result.consumed (tail.old.items ++ piece.now) }

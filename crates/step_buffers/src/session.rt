@@ -40,7 +40,12 @@ impl Model for Session {
     ghost use Rattle.step_buffers.specs.Sound.{IsSound};
 
     ghost view = { λ s. record {
-      output = s.output.items; tail = s.tail.items; offset = s.offset; taken = s.taken; stopped = s.stopped } };
+      output = s.output.items;
+      tail = s.tail.items;
+      offset = s.offset;
+      taken = s.taken;
+      stopped = s.stopped;
+    } };
 
     ghost invariant = { IsSound };
 }
@@ -78,11 +83,7 @@ impl Session {
     /// Takes the next piece of the stream. All memory is taken first.
     ///
     /// A session that has stopped answers the same as before, and nothing changes.
-    pub fn feed<C: Converter>(
-        &mut self,
-        converter: &mut C,
-        piece: &[u8],
-    ) -> Result<Fed, AllocError>
+    pub fn feed<C: Converter>(&mut self, converter: &mut C, piece: &[u8]) -> Result<Fed, AllocError>
         requires ready { C.ready converter.old }
         requires range { CanRun (C.tables converter.old) (C.machine converter.old).recipe }
         requires piece { length piece.now ≤ LONGEST_PIECE }
@@ -105,7 +106,8 @@ impl Session {
                 offset: self.offset,
             });
         }
-        self.output.reserve(ROOM * (self.tail.len() + piece.len()) + ROOM)?;
+        self.output
+            .reserve(ROOM * (self.tail.len() + piece.len()) + ROOM)?;
         self.tail.reserve(piece.len())?;
         let reached = take_in(
             converter,

@@ -50,7 +50,7 @@ pub fn convert_through<C: Converter>(
     ensures means { let m = C.machine converter.old in let n = C.machine converter.new in
         (w : List ℕ) × (output.new.items ≡ output.old.items ++ w)
         × ChainMeans (C.tables converter.old) m.recipe m.reading m.writing input.now
-          w result.verdict result.consumed n.reading n.writing }
+        w result.verdict result.consumed n.reading n.writing }
     ensures room { vec_len output.new ≤ vec_len output.old + ROOM * length input.now }
     ensures capacity { vec_capacity output.old ≤ vec_capacity output.new }
     ensures within { result.consumed ≤ length input.now }
