@@ -1,7 +1,7 @@
 //! Streams in pieces as their callers convert them.
 
 ghost use Rattle.std.specs.Prelude.{◌≡◌, ◌≤◌, [], ◌∷◌};
-ghost use Rattle.step_buffers.proofs.EmptyTable.{empty_tables};
+ghost use Rattle.step_buffers.specs.EmptyTable.{empty_tables};
 
 use crate::{Fed, Finish, Session, Whole};
 use chain_steps::{Bound, Joints, Recipe, Runner, Set};
@@ -53,10 +53,10 @@ fn a_point_comes_in_four_pieces(rt: HostRuntime) -> Result<(), AllocError> {
         tables: &mut tables,
     };
     let mut session = Session::new(rt.alloc())?;
-    for byte in [0xF0, 0x9F, 0x98] {
-        assert!(&rt; session.feed(&mut bound, &[byte])? == Fed::Going);
-        assert!(&rt; session.output().is_empty());
-    }
+    assert!(&rt; session.feed(&mut bound, &[0xF0])? == Fed::Going);
+    assert!(&rt; session.feed(&mut bound, &[0x9F])? == Fed::Going);
+    assert!(&rt; session.feed(&mut bound, &[0x98])? == Fed::Going);
+    assert!(&rt; session.output().is_empty());
     assert!(&rt; session.feed(&mut bound, &[0x80])? == Fed::Going);
     assert!(&rt; session.output() == [0xD8, 0x3D, 0xDE, 0x00].as_slice());
     let whole = session.finish(&mut bound);
