@@ -1,6 +1,5 @@
 -- A unit of every set, and what ends a text of it, has at most eight bytes.
-use Rattle.std.proofs.Common.{◌≡◌, ℕ, ◌<◌, ◌≤◌, List, [], ◌∷◌, ◌++◌, length, Option, Some, refl, ap, inl, inr, arith, length-append}
-use Rattle.std.proofs.lemmas.List.{nil_from_length}
+use Rattle.std.proofs.Common.{ℕ, ◌<◌, ◌≤◌, List, [], ◌∷◌, ◌++◌, length, Option, inl, inr, arith, length-append}
 use Rattle.code_pairs.specs.Tables.{Tables}
 use Rattle.unit_relations.specs.Units.{IsPartial}
 use Rattle.unit_relations.proofs.Room.{some_length}
