@@ -21,6 +21,9 @@ impl ReadSet for ReadAny {
         match self.set {
             Set::Unicode(uni) => step_unicode::read_unit(uni, state, input),
             Set::Table(table) => step_table::read_unit(tables, table, state, input),
+            Set::Iso2022Jp { roman, kanji } => {
+                step_iso2022jp::read_unit(tables, roman, kanji, state, input)
+            }
         }
     }
 }
@@ -45,6 +48,9 @@ impl WriteSet for WriteAny {
         match self.set {
             Set::Unicode(uni) => step_unicode::write_at(uni, state, point, output, at),
             Set::Table(table) => step_table::write(tables, table, state, point, output, at),
+            Set::Iso2022Jp { roman, kanji } => {
+                step_iso2022jp::write(tables, roman, kanji, state, point, output, at)
+            }
         }
     }
 }

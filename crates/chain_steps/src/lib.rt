@@ -3,8 +3,9 @@
 
 mod any;
 mod between;
+mod choose_reader;
+mod choose_writer;
 mod converter;
-mod dispatch;
 mod joints;
 mod laws;
 mod loops;

@@ -1,22 +1,14 @@
 -- Bytes put behind an escape, and what they are of a point.
-use Rattle.std.proofs.Common.{◌≡◌, ◌+◌, ◌-◌, ◌<◌, ◌≤◌, ℕ, Bool, true, false, cond, List, [], ◌∷◌, ◌++◌, length, take, drop, set, Option, Some, None, inl, inr, refl, sym, ap, ◌∙◌, subst, arith, append_assoc, append-nil, length-append, length-set}
-use Rattle.std.specs.Prelude.{fold, IsSome, is_some}
-use Rattle.std.specs.List.{flat_map, zip, cons_option}
-use Rattle.std.specs.Option.{option_or}
+use Rattle.std.proofs.Common.{◌≡◌, ◌+◌, ◌≤◌, ℕ, false, List, [], ◌∷◌, ◌++◌, length, take, drop, set, refl, sym, ap, ◌∙◌, subst, arith, append_assoc, length-append, length-set}
 use Rattle.std.proofs.lemmas.List.{drop-drop, drop-set-lt}
 use Rattle.std.proofs.lemmas.Grind.{take-set_at}
 use denote.Enum.Bare.{sameb}
-use Rattle.code_pairs.specs.Tables.{Table, code_of}
 use Rattle.step_unicode.specs.contracts.set.State.{the_type}
 use Rattle.step_unicode.specs.declared.set.State.{State}
 use Rattle.step_unicode.specs.declared.set.State.TheVariants.{Plain, Little, Big, Roman, Kanji}
-use Rattle.step_unicode.specs.declared.wrote.Wrote.{Wrote}
-use Rattle.step_unicode.specs.declared.wrote.Wrote.TheVariants.{Bytes, Full, Lacks}
-use Rattle.step_unicode.specs.Answers.{IsWrote}
+use Rattle.step_unicode.specs.declared.wrote.Wrote.TheVariants.{Bytes}
 use Rattle.step_iso2022jp.specs.Puts.{IsPut}
 use Rattle.step_iso2022jp.specs.Shifts.{IsShiftState, escape, shift}
-use Rattle.step_iso2022jp.specs.Sets.{Written, IsInJp, written_of, classes, shifted, jp_spelling}
-use Rattle.step_iso2022jp.proofs.Joining.{IsForm, written_form, is_short}
 
 -- between two states that differ stands an escape
 pub shift_other : (s c : State) → IsShiftState s → IsShiftState c → false ≡ sameb the_type s c → shift s c ≡ escape c
@@ -57,9 +49,9 @@ shifted_one s c old mid at b is shifts within same front rest = (
   omega (arith, length-set mid (at + 3) b),
   omega (arith, ap length shifts, escape_length c is, length-append (shift s c) (b ∷ [])),
   take-set_at mid (at + 3) (at + 4) b (omega arith) (omega arith) ∙ ap (λ v. v ++ b ∷ []) front ∙ append_assoc (take at old) (escape c) (b ∷ [])
-  ∙ ap (λ e. take at old ++ (e ++ b ∷ [])) (sym shifts),
+      ∙ ap (λ e. take at old ++ (e ++ b ∷ [])) (sym shifts),
   drop-set-lt (at + 4) mid (at + 3) b (omega arith) ∙ subst (λ n. drop n mid ≡ drop n old) more (further 1 (at + 3) mid old rest),
-  refl
+  refl,
 )
   where
     more : at + 3 + 1 ≡ at + 4
@@ -73,12 +65,12 @@ shifted_two s c old mid at b d is shifts within same front rest = (
   omega (arith, length-set (set mid (at + 3) b) (at + 4) d, length-set mid (at + 3) b),
   omega (arith, ap length shifts, escape_length c is, length-append (shift s c) (b ∷ d ∷ [])),
   take-set_at (set mid (at + 3) b) (at + 4) (at + 5) d (omega arith) (omega (arith, length-set mid (at + 3) b))
-  ∙ ap (λ v. v ++ d ∷ []) (take-set_at mid (at + 3) (at + 4) b (omega arith) (omega arith) ∙ ap (λ v. v ++ b ∷ []) front)
-  ∙ append_assoc (take at old ++ escape c) (b ∷ []) (d ∷ []) ∙ append_assoc (take at old) (escape c) (b ∷ d ∷ [])
-  ∙ ap (λ e. take at old ++ (e ++ b ∷ d ∷ [])) (sym shifts),
+      ∙ ap (λ v. v ++ d ∷ []) (take-set_at mid (at + 3) (at + 4) b (omega arith) (omega arith) ∙ ap (λ v. v ++ b ∷ []) front)
+      ∙ append_assoc (take at old ++ escape c) (b ∷ []) (d ∷ []) ∙ append_assoc (take at old) (escape c) (b ∷ d ∷ [])
+      ∙ ap (λ e. take at old ++ (e ++ b ∷ d ∷ [])) (sym shifts),
   drop-set-lt (at + 5) (set mid (at + 3) b) (at + 4) d (omega arith) ∙ drop-set-lt (at + 5) mid (at + 3) b (omega arith)
-  ∙ subst (λ n. drop n mid ≡ drop n old) more (further 2 (at + 3) mid old rest),
-  refl
+      ∙ subst (λ n. drop n mid ≡ drop n old) more (further 2 (at + 3) mid old rest),
+  refl,
 )
   where
     more : at + 3 + 2 ≡ at + 5

@@ -69,10 +69,8 @@ fn read_roman<T: Lookup>(tables: &mut T, roman: u32, input: &[u8]) -> Unit
     requires within { roman < length (T.tables tables.old) }
     requires some { 0 < length input.now }
     requires graphic { IsTrue (is_graphic (slice_index input.now 0)) }
-    ensures value {
-        let r = table_at (T.tables tables.old) roman in
-        (kanji : Table) → IsAnswer (IsJpUnit r kanji) Roman input.now result
-    }
+    ensures value { let r = table_at (T.tables tables.old) roman in
+        (kanji : Table) → IsAnswer (IsJpUnit r kanji) Roman input.now result }
     ensures same { T.tables tables.new ≡ T.tables tables.old }
     ensures ready { T.ready tables.new }
     ensures kept { T.kept tables.old tables.new }
@@ -94,10 +92,8 @@ fn read_kanji<T: Lookup>(tables: &mut T, kanji: u32, input: &[u8]) -> Unit
     requires within { kanji < length (T.tables tables.old) }
     requires some { 0 < length input.now }
     requires graphic { IsTrue (is_graphic (slice_index input.now 0)) }
-    ensures value {
-        let k = table_at (T.tables tables.old) kanji in
-        (roman : Table) → IsAnswer (IsJpUnit roman k) Kanji input.now result
-    }
+    ensures value { let k = table_at (T.tables tables.old) kanji in
+        (roman : Table) → IsAnswer (IsJpUnit roman k) Kanji input.now result }
     ensures same { T.tables tables.new ≡ T.tables tables.old }
     ensures ready { T.ready tables.new }
     ensures kept { T.kept tables.old tables.new }
@@ -124,10 +120,8 @@ fn read_lead<T: Lookup>(tables: &mut T, kanji: u32, input: &[u8]) -> Unit
     requires within { kanji < length (T.tables tables.old) }
     requires one { length input.now ≡ 1 }
     requires graphic { IsTrue (is_graphic (slice_index input.now 0)) }
-    ensures value {
-        let k = table_at (T.tables tables.old) kanji in
-        (roman : Table) → IsAnswer (IsJpUnit roman k) Kanji input.now result
-    }
+    ensures value { let k = table_at (T.tables tables.old) kanji in
+        (roman : Table) → IsAnswer (IsJpUnit roman k) Kanji input.now result }
     ensures same { T.tables tables.new ≡ T.tables tables.old }
     ensures ready { T.ready tables.new }
     ensures kept { T.kept tables.old tables.new }
@@ -153,11 +147,9 @@ pub fn read_unit<T: Lookup>(
     requires kanji { kanji < length (T.tables tables.old) }
     requires state { IsShiftState state }
     requires some { 0 < length input.now }
-    ensures value {
-        let r = table_at (T.tables tables.old) roman in
+    ensures value { let r = table_at (T.tables tables.old) roman in
         let k = table_at (T.tables tables.old) kanji in
-        IsAnswer (IsJpUnit r k) state input.now result
-    }
+        IsAnswer (IsJpUnit r k) state input.now result }
     ensures same { T.tables tables.new ≡ T.tables tables.old }
     ensures ready { T.ready tables.new }
     ensures kept { T.kept tables.old tables.new }

@@ -33,10 +33,8 @@ pub fn point_of_code<T: Lookup>(tables: &mut T, table: u32, code: &[u8]) -> Opti
 pub fn leads<T: Lookup>(tables: &mut T, table: u32, lead: u8) -> bool
     requires ready { T.ready tables.old }
     requires within { table < length (T.tables tables.old) }
-    ensures value {
-        let t = table_at (T.tables tables.old) table in
-        IsTrue result ↔ ((b : ℕ) × IsTrue (is_graphic b) × IsSome (point_of t (lead ∷ b ∷ [])))
-    }
+    ensures value { let t = table_at (T.tables tables.old) table in
+        IsTrue result ↔ ((b : ℕ) × IsTrue (is_graphic b) × IsSome (point_of t (lead ∷ b ∷ []))) }
     ensures same { T.tables tables.new ≡ T.tables tables.old }
     ensures ready { T.ready tables.new }
     ensures kept { T.kept tables.old tables.new }

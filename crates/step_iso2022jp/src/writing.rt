@@ -18,10 +18,8 @@ use step_unicode::{Small, State, Wrote};
 fn roman_code<T: Lookup>(tables: &mut T, roman: u32, point: u32) -> Option<u8>
     requires ready { T.ready tables.old }
     requires within { roman < length (T.tables tables.old) }
-    ensures value {
-        let w = in_class Roman is_roman_code (code_of (table_at (T.tables tables.old) roman) point) in
-        MatchOption result (w ≡ None) (λ a. w ≡ Some (record { class = Roman; code = a ∷ [] }))
-    }
+    ensures value { let w = in_class Roman is_roman_code (code_of (table_at (T.tables tables.old) roman) point) in
+        MatchOption result (w ≡ None) (λ a. w ≡ Some (record { class = Roman; code = a ∷ [] })) }
     ensures same { T.tables tables.new ≡ T.tables tables.old }
     ensures ready { T.ready tables.new }
     ensures kept { T.kept tables.old tables.new }
@@ -37,11 +35,9 @@ fn roman_code<T: Lookup>(tables: &mut T, roman: u32, point: u32) -> Option<u8>
 fn kanji_code<T: Lookup>(tables: &mut T, kanji: u32, point: u32) -> Option<(u8, u8)>
     requires ready { T.ready tables.old }
     requires within { kanji < length (T.tables tables.old) }
-    ensures value {
-        let w = in_class Kanji is_kanji_code (code_of (table_at (T.tables tables.old) kanji) point) in
+    ensures value { let w = in_class Kanji is_kanji_code (code_of (table_at (T.tables tables.old) kanji) point) in
         MatchOption result (w ≡ None)
-            (λ n. w ≡ Some (record { class = Kanji; code = n.0 ∷ n.1 ∷ [] }))
-    }
+        (λ n. w ≡ Some (record { class = Kanji; code = n.0 ∷ n.1 ∷ [] })) }
     ensures same { T.tables tables.new ≡ T.tables tables.old }
     ensures ready { T.ready tables.new }
     ensures kept { T.kept tables.old tables.new }
@@ -70,11 +66,9 @@ pub fn write<T: Lookup>(
     requires kanji { kanji < length (T.tables tables.old) }
     requires state { IsShiftState state }
     requires at { at ≤ length output.old }
-    ensures value {
-        let r = table_at (T.tables tables.old) roman in
+    ensures value { let r = table_at (T.tables tables.old) roman in
         let k = table_at (T.tables tables.old) kanji in
-        IsWrote (IsInJp r k) (jp_spelling r k) state point at output.old output.new result
-    }
+        IsWrote (IsInJp r k) (jp_spelling r k) state point at output.old output.new result }
     ensures same { T.tables tables.new ≡ T.tables tables.old }
     ensures ready { T.ready tables.new }
     ensures kept { T.kept tables.old tables.new }
@@ -103,11 +97,9 @@ pub fn write_unit<T: Lookup>(
     requires roman { roman < length (T.tables tables.old) }
     requires kanji { kanji < length (T.tables tables.old) }
     requires state { IsShiftState state }
-    ensures value {
-        let r = table_at (T.tables tables.old) roman in
+    ensures value { let r = table_at (T.tables tables.old) roman in
         let k = table_at (T.tables tables.old) kanji in
-        IsWritten (IsInJp r k) (jp_spelling r k) state point result
-    }
+        IsWritten (IsInJp r k) (jp_spelling r k) state point result }
     ensures same { T.tables tables.new ≡ T.tables tables.old }
     ensures ready { T.ready tables.new }
     ensures kept { T.kept tables.old tables.new }

@@ -3,7 +3,7 @@ use Rattle.unit_relations.specs.Calls.{Converts}
 use Rattle.chain_steps.specs.declared.recipe.Set.{Set}
 use Rattle.chain_steps.specs.Sets.{IsUnitOf, spelling_in}
 use Rattle.chain_steps.specs.Carry.{Carries}
-use Rattle.chain_steps.proofs.dispatch.convert_as.Goals as goal
+use Rattle.chain_steps.proofs.choose_writer.convert_as.Goals as goal
 
 pub returns-clause-converts : goal.returns-clause-converts
 returns-clause-converts g c =
