@@ -15,11 +15,14 @@ use Rattle.trie.proofs.Fills.{some_page}
 use Rattle.trie.proofs.Distinct.{cells_at, length-all_children}
 use Rattle.trie.proofs.Looks.{looks}
 
+lt_le : {m n : ℕ} → m < n → m ≤ n
+lt_le h = omega arith
+
 -- where the trie of the leaves stands, the words hold its pages
 pub trie_holds : (leaves : List Leaf) (first : ℕ) (ws : List ℕ) → IsTrieAt leaves first ws →
     Holds leaves leaves first ws
 trie_holds leaves first ws at = record {
-  few = at.few;
+  few = lt_le at.few;
   words = λ k b lt small.
       ap (λ i. get_or ws i 0) (let e : 256 * (first + k) + b ≡ 256 * first + (256 * k + b) = omega arith in e)
       ∙ at.same (256 * k + b) (omega (
@@ -76,7 +79,7 @@ words_are leaves first before levels ws size same kept h all =
 
 -- where a trie follows some words, it stands there
 pub trie_stands : (leaves : List Leaf) (first : ℕ) (before ws : List ℕ) → AreShort 4 leaves →
-    first + length (pages leaves) ≤ 2 ^ 32 → length before ≡ 256 * first
+    first + length (pages leaves) < 2 ^ 32 → length before ≡ 256 * first
     → ws ≡ before ++ trie leaves first → IsTrieAt leaves first ws
 trie_stands leaves first before ws short few size is = record {
   short = short;

@@ -11,3 +11,5 @@ pub mod Images
 pub mod Leasts
 pub mod Entries
 pub mod Overlapping
+pub mod Firsts
+pub mod Saying

@@ -28,6 +28,6 @@ trie leaves first = map (cell leaves first (pages leaves)) (flat_map children (p
 -- Some words have, from a page on, those of the trie of these leaves.
 pub record IsTrieAt (leaves : List Leaf) (first : ℕ) (words : List ℕ) : Type 0 where
   pub short : AreShort 4 leaves
-  pub few : first + length (pages leaves) ≤ 2 ^ 32
+  pub few : first + length (pages leaves) < 2 ^ 32
   pub same : (i : ℕ) → i < length (trie leaves first) →
       slice_index words (256 * first + i) ≡ slice_index (trie leaves first) i

@@ -30,8 +30,7 @@ impl Entry {
         requires some { 0 < count }
         requires few { count ≤ 4 }
         requires small { word < 2 ^ 62 }
-        ensures path { result.path ≡ take count bytes }
-        ensures word { result.word ≡ word }
+        ensures { result ≡ record { path = take count bytes; word = word } }
     {
         Entry {
             bytes,

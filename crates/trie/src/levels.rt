@@ -50,7 +50,7 @@ fn push_level<L: Leaves>(
     Ok(next)
 }
 
-/// Appends the pages of a trie, with references alone. More than 2^32 pages are want of memory.
+/// Appends the pages of a trie, with references alone. Pages without a number below 2^32 are want of memory.
 pub fn push_levels<L: Leaves>(
     alloc: Global,
     words: &mut Vec<u64>,
@@ -63,6 +63,7 @@ pub fn push_levels<L: Leaves>(
     ensures size { OnOk result (length words.new.items ≡
         256 * (first + length (fronts (L.leaves leaves.now) 4))) }
     ensures same { OnOk result (take (length words.old.items) words.new.items ≡ words.old.items) }
+    ensures few { OnOk result (first + length (fronts (L.leaves leaves.now) 4) < 2 ^ 32) }
 {
     if first == u32::MAX {
         return Err(AllocError);
