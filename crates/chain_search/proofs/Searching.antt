@@ -1,15 +1,15 @@
 -- Why the search by least costs finds the least chains.
-use Rattle.std.proofs.Common.{◌≡◌, ◌≢◌, ℕ, zero, suc, ◌+◌, ◌<◌, ◌≤◌, ◌⊎◌, Bool, true, false, cond, eqb, ◌||◌, List, [], ◌∷◌, ◌++◌, length, get_or, take, set, Option, Some, None, is_some, refl, sym, ap, ◌∙◌, subst, inl, inr, ⊎_elim, arith, add-one}
+use Rattle.std.proofs.Common.{◌≡◌, ◌≢◌, ℕ, ◌+◌, ◌<◌, ◌≤◌, ◌⊎◌, Bool, true, false, cond, eqb, ◌||◌, List, [], ◌∷◌, length, set, Option, Some, None, is_some, refl, sym, ap, ◌∙◌, subst, inl, inr, arith, add-one}
 use Rattle.std.specs.List.{Contains}
-use Rattle.std.proofs.lemmas.List.{get_or_default, get_or-set_same, get_or-set_other, length-set}
-use Rattle.std.proofs.lemmas.Bool.{cases_lt, cases_eq, cases_Bool, false≢true, eq-eqb, eqb-true, eqb-false, ne_eqb}
+use Rattle.std.proofs.lemmas.List.{get_or-set_same}
+use Rattle.std.proofs.lemmas.Bool.{cases_eq, cases_Bool, false≢true, eq-eqb, ne_eqb}
 use Rattle.module_graph.specs.declared.edge.Edge.{Edge}
 use Rattle.chain_search.specs.declared.step.Step.{Step}
 use Rattle.module_graph.specs.Graph.{Shape, IsGraph}
 use Rattle.module_graph.proofs.GraphLemmas.{same_edge, is_edge}
 use Rattle.chain_search.specs.Chains.{Way, IsChain, cost_of, ordinals_of, IsNoLater, IsAtMost, IsLeastChain, NoChain}
 use Rattle.chain_search.specs.Search.{is_closed, rest_from, Stands, Searched, AreTold}
-use Rattle.chain_search.proofs.Relaxing.{written, greater_trans, has_trans}
+use Rattle.chain_search.proofs.Relaxing.{written, greater_trans}
 use Rattle.chain_search.specs.Steps.{step_at, step_by, NoGreater, HasAtMost, Relaxes}
 
 -- the order of chains

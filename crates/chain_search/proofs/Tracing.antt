@@ -1,10 +1,10 @@
 -- How settled steps lead to the target.
-use Rattle.std.proofs.Common.{◌≡◌, ◌≢◌, ℕ, ◌+◌, ◌<◌, ◌≤◌, ◌⊎◌, true, List, [], ◌∷◌, ◌++◌, length, get_or, Option, Some, None, refl, sym, ap, ◌∙◌, subst, inl, inr, arith, append_assoc, append-nil, add-one}
+use Rattle.std.proofs.Common.{◌≡◌, ℕ, ◌+◌, ◌<◌, ◌≤◌, ◌⊎◌, List, [], ◌∷◌, ◌++◌, length, Option, Some, None, refl, sym, ap, ◌∙◌, inl, inr, arith, append_assoc, append-nil, add-one}
 use Rattle.module_graph.specs.declared.edge.Edge.{Edge}
 use Rattle.chain_search.specs.declared.step.Step.{Step}
 use Rattle.chain_search.specs.Chains.{ordinals_of, cost_of}
 use Rattle.chain_search.specs.Steps.{step_at}
-use Rattle.chain_search.specs.Search.{AreTold, Stands, is_closed, rest_from}
+use Rattle.chain_search.specs.Search.{AreTold, Stands, rest_from}
 use Rattle.chain_search.proofs.Searching.{closed_cases, rest_target, rest_other}
 
 -- what was traced, up to a node

@@ -1,20 +1,20 @@
 -- One turn of the search.
-use Rattle.std.proofs.Common.{◌≡◌, ◌≢◌, ℕ, zero, suc, ◌+◌, ◌*◌, ◌^◌, ◌-◌, ◌<◌, ◌≤◌, ◌⊎◌, Bool, true, false, cond, eqb, ◌||◌, List, [], ◌∷◌, ◌++◌, length, get_or, set, take, drop, replicate, Option, Some, None, is_some, refl, sym, ap, ◌∙◌, subst, inl, inr, arith, Vec, Global}
+use Rattle.std.proofs.Common.{◌≡◌, ◌≢◌, ℕ, zero, suc, ◌+◌, ◌*◌, ◌^◌, ◌-◌, ◌<◌, ◌≤◌, ◌⊎◌, Bool, true, false, cond, eqb, ◌||◌, List, [], ◌∷◌, length, get_or, set, replicate, Option, Some, None, is_some, refl, sym, ap, ◌∙◌, subst, inl, inr, arith}
 use Rattle.std.specs.List.{All, Contains, filter}
-use Rattle.std.proofs.lemmas.List.{length-replicate, take-append-le, take_all, get_or_default, get_or-set_same, get_or-set_other, length-set, get_or_past}
+use Rattle.std.proofs.lemmas.List.{length-replicate, get_or_default, get_or-set_same, get_or-set_other, length-set}
 use Rattle.std.proofs.lemmas.List.Sums.{sum_by-set, count_by-le-length, length-filter}
-use Rattle.std.proofs.lemmas.Bool.{cases_eq, cases_Bool, false≢true, eq-eqb, eqb-true, ne_eqb}
+use Rattle.std.proofs.lemmas.Bool.{cases_eq, cases_Bool, eq-eqb, eqb-true, ne_eqb}
 use Rattle.module_graph.specs.declared.edge.Edge.{Edge}
 use Rattle.chain_search.specs.declared.step.Step.{Step}
 use Rattle.chain_search.specs.declared.frontier.Open.{Open}
 use Rattle.module_graph.specs.Graph.{Shape, IsGraph, IsEdge, edges_into}
 use Rattle.module_graph.proofs.GraphLemmas.{is_edge}
-use Rattle.chain_search.specs.Chains.{IsChain, IsLeastChain, NoChain, cost_of, ordinals_of}
+use Rattle.chain_search.specs.Chains.{IsLeastChain, NoChain, cost_of, ordinals_of}
+use Rattle.chain_search.specs.Answer.{TellsLeast}
 use Rattle.chain_search.specs.Steps.{step_at, step_by, Relaxes, HasAtMost}
-use Rattle.chain_search.specs.Frontier.{IsOpen, IsCheapest, NoneOpen, Covers, CoversOthers, KeepsCovered, entry}
-use Rattle.chain_search.specs.Search.{is_closed, rest_from, Stands, Searched, IsBounded, settled_count, closed_edges, Running, AreTold, IsTold}
-use Rattle.chain_search.proofs.Relaxing.{written}
-use Rattle.chain_search.proofs.Searching.{no_chain, settled_target, settled_other, closed_target, closed_known, not_closed, rest_target, found}
+use Rattle.chain_search.specs.Frontier.{IsOpen, IsCheapest, NoneOpen, CoversOthers, KeepsCovered}
+use Rattle.chain_search.specs.Search.{is_closed, IsBounded, settled_count, closed_edges, Running, AreTold, IsTold}
+use Rattle.chain_search.proofs.Searching.{no_chain, settled_target, settled_other, closed_target, closed_known, rest_target, found}
 use Rattle.chain_search.proofs.Tracing.{told_cost}
 
 none_some : {s : Step} → None ≡ Some s → ⊥
@@ -175,8 +175,8 @@ starts g ok source target start later queue steps r q n =
     }
 
 -- the first row is no longer than all edges
-pub row_counted : (g : Shape) (target start steps : ℕ) → steps ≤ start + length (edges_into g.edges target) → steps ≤ start + length g.edges
-row_counted g target start steps n = omega (arith, n, length-filter (λ (e : Edge). eqb e.target target) g.edges, count_by-le-length (λ (e : Edge). eqb e.target target) g.edges)
+pub first_counted : (g : Shape) (target start steps : ℕ) → steps ≤ start + length (edges_into g.edges target) → steps ≤ start + length g.edges
+first_counted g target start steps n = omega (arith, n, length-filter (λ (e : Edge). eqb e.target target) g.edges, count_by-le-length (λ (e : Edge). eqb e.target target) g.edges)
 
 module _ (g : Shape) (ok : IsGraph g) (source target start : ℕ) (known opened : List (Option Step)) (queue : List Open) (steps : ℕ) (r : Running g source target start known opened queue steps) where
   -- the call's count at any turn
@@ -274,8 +274,13 @@ module _ (g : Shape) (ok : IsGraph g) (source target start : ℕ) (known opened 
     -- the answer there
     pub answers : (items : List ℕ) → u ≡ source
         → ((es : List Edge) (end : ℕ) (walk : ℕ → List Edge) → AreTold es end after walk → step_at after source ≡ Some s → items ≡ ordinals_of (walk source))
-        → (es : List Edge) × IsLeastChain g.edges source target es × (items ≡ ordinals_of es) × (s.cost ≡ cost_of es)
+        → TellsLeast g.edges source target (record { ordinals = items; cost = s.cost })
     answers items is traced =
         let h = found g ok target known opened r.searched u s b.within b.here.fresh b.here.offer low in
         let at : step_at after source ≡ Some s = ap (step_at after) (sym is) ∙ h.3 in
-        (h.0 source, subst (λ v. IsLeastChain g.edges v target (h.0 v)) is h.2, traced g.edges target h.0 h.1 at, told_cost g.edges target after h.0 source s (h.0 source) (h.1 source s at))
+        record {
+          edges = h.0 source;
+          least = subst (λ v. IsLeastChain g.edges v target (h.0 v)) is h.2;
+          ordinals = traced g.edges target h.0 h.1 at;
+          cost = told_cost g.edges target after h.0 source s (h.0 source) (h.1 source s at);
+        }

@@ -1,5 +1,5 @@
-use Rattle.std.proofs.Common.{◌≡◌, ◌∙◌, sym, [], ◌∷◌, ◌++◌}
-use Rattle.chain_search.proofs.Tracing.{Tracing, trace_none, trace_all, trace_more, trace_stuck, not_there}
+use Rattle.std.proofs.Common.{◌∙◌, sym}
+use Rattle.chain_search.proofs.Tracing.{trace_none, trace_all, trace_more, trace_stuck, not_there}
 use Rattle.chain_search.proofs.trace.trace.Goals as goal
 
 pub loop-init : goal.loop-init
