@@ -1,0 +1,5 @@
+pub mod Cost
+pub mod Modules
+pub mod Charmaps
+pub mod Bindings
+pub mod Limits

@@ -1,0 +1,25 @@
+-- Worked examples.
+use Rattle.std.specs.Prelude.{◌≡◌, refl, codes, Ok, Err, replicate, ◌++◌}
+use Rattle.names_alias.specs.NameForm.{normal_of}
+use Rattle.names_alias.specs.declared.fault.NameFault.TheVariants.{Suffix, Empty, LongName}
+
+pub suffix_row : normal_of (codes "UTF-8//TRANSLIT") ≡ Err (Suffix 7)
+suffix_row = refl
+
+pub blank_row : normal_of (codes " utf 8") ≡ Ok (codes "UTF8//")
+blank_row = refl
+
+pub second_row : normal_of (codes "iso-10646/ucs4/") ≡ Ok (codes "ISO-10646/UCS4/")
+second_row = refl
+
+pub empty_row : normal_of (codes "") ≡ Err Empty
+empty_row = refl
+
+pub slashes_row : normal_of (codes "//") ≡ Err Empty
+slashes_row = refl
+
+pub fits_row : normal_of (replicate 62 97) ≡ Ok (replicate 62 65 ++ codes "//")
+fits_row = refl
+
+pub long_row : normal_of (replicate 63 97) ≡ Err (LongName 65)
+long_row = refl

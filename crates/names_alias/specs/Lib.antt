@@ -1,0 +1,4 @@
+pub mod NameForm
+pub mod Builtin
+pub mod Front
+pub mod Scan
