@@ -1,1 +1,6 @@
 pub mod GraphLemmas
+pub mod Firsts
+pub mod Drafting
+pub mod KindsByName
+pub mod OrdinalSearch
+pub mod Whole

@@ -2,7 +2,7 @@
 
 /// A conversion from the node `source` to the node `target`.
 ///
-/// A node is a number from 0; so is a module. A built-in conversion has no module. The cost is 1 to
+/// Nodes and modules are numbers from 0. A built-in conversion has no module. The cost is 1 to
 /// 2,147,483,647.
 #[derive(Clone, Copy, Debug)]
 pub struct Edge {
