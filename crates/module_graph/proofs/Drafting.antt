@@ -1,5 +1,5 @@
 -- What adding an edge does to a draft.
-use Rattle.std.proofs.Common.{◌≡◌, ℕ, ◌+◌, ◌*◌, ◌^◌, ◌<◌, ◌≤◌, Bool, true, false, eqb, List, [], ◌∷◌, ◌++◌, length, map, position, Option, Some, None, unwrap_or, refl, sym, ap, ◌∙◌, subst, arith}
+use Rattle.std.proofs.Common.{◌≡◌, ℕ, ◌+◌, ◌*◌, ◌^◌, ◌<◌, ◌≤◌, true, List, [], ◌∷◌, ◌++◌, length, map, position, Option, Some, None, unwrap_or, refl, sym, ap, ◌∙◌, subst, arith}
 use Rattle.std.specs.List.{list_any, position_or_len, filter_map, flat_map, cons_option}
 use Rattle.std.specs.Option.{option_and_then}
 use Rattle.std.specs.Str.{bytes_eq}
@@ -10,10 +10,9 @@ use Rattle.std.proofs.lemmas.List.Elements.{filter_map-append}
 use Rattle.indexmap.specs.IndexSet.{insert_key}
 use Rattle.modules_conf.specs.declared.kind.Kind.{Kind}
 use Rattle.modules_conf.specs.declared.kind.Kind.TheVariants.{Table, Iso2022Jp, Recode}
-use Rattle.module_graph.specs.declared.edge.Edge.{Edge}
 use Rattle.module_graph.specs.declared.draft.Draft.{Draft}
 use Rattle.module_graph.specs.Edges.{NamedEdge}
-use Rattle.module_graph.specs.Numbers.{with_new, same_kind, node_names, kinds_after, node_number, numbered, shape_of}
+use Rattle.module_graph.specs.Numbers.{with_new, same_kind, node_names, kinds_after, node_number, numbered}
 use Rattle.module_graph.specs.Drafts.{IsDraft, IsRoomy, AddsKind}
 use Rattle.module_graph.proofs.Firsts.{Grows, grows_refl, grows_trans, grows_insert, grows_with_new, inserted_has, position_inserted, with_new-append, length_with_new}
 

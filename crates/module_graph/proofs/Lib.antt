@@ -4,3 +4,4 @@ pub mod Drafting
 pub mod KindsByName
 pub mod OrdinalSearch
 pub mod Whole
+pub mod Shaping

@@ -1,15 +1,16 @@
 -- The draft of all edges.
-use Rattle.std.proofs.Common.{◌≡◌, ℕ, ◌+◌, ◌*◌, ◌^◌, ◌<◌, ◌≤◌, Bool, true, false, cond, not, List, [], ◌∷◌, ◌++◌, length, take, get_or, count_by, Option, Some, None, is_some, refl, sym, ap, ◌∙◌, subst, inl, inr, arith, append_assoc, length-append, add-zero}
+use Rattle.std.proofs.Common.{◌≡◌, ℕ, ◌+◌, ◌*◌, ◌<◌, ◌≤◌, Bool, true, false, cond, not, List, [], ◌∷◌, ◌++◌, length, take, get_or, count_by, Option, Some, None, is_some, refl, sym, ap, ◌∙◌, subst, inl, inr, arith, append_assoc, append-nil, length-append, add-zero}
+use mir.Val.{bool_byte}
 use Rattle.std.specs.List.{filter_map, flat_map, enumerate_from, cons_option}
 use Rattle.std.proofs.lemmas.Grind.{flat_map-append}
 use Rattle.std.proofs.lemmas.List.{take_more, length-take-le}
 use Rattle.std.proofs.lemmas.List.Elements.{filter_map-append}
 use Rattle.std.proofs.lemmas.List.FromFn.{length-enumerate_from}
-use Rattle.std.proofs.lemmas.List.Sums.{count_by-le-length, sum_by-append}
+use Rattle.std.proofs.lemmas.List.Sums.{count_by-le-length, count_by_more_yes, count_by_more_no}
+use Rattle.std.proofs.lemmas.Bool.{cases_Bool}
 use Rattle.names_alias.specs.Builtin.{builtin_sets, internal_name}
 use Rattle.modules_conf.specs.declared.lines.EdgeLine.{EdgeLine}
 use Rattle.modules_conf.specs.declared.bindings.Binding.{Binding}
-use Rattle.modules_conf.specs.declared.kind.Kind.{Kind}
 use Rattle.module_graph.specs.declared.draft.Draft.{Draft}
 use Rattle.module_graph.specs.Edges.{NamedEdge, builtin_pair, builtin_edges, named_edges, skipped_lines, edge_of_line, kind_of_line}
 use Rattle.module_graph.specs.Drafts.{IsDraft, IsRoomy}
@@ -32,6 +33,16 @@ builtin_more n lt =
     let once : enumerate_from 0 (take (n + 1) builtin_sets) ≡ enumerate_from 0 (take n builtin_sets) ++ (n, get_or builtin_sets n []) ∷ [] =
     ap (enumerate_from 0) (take_more builtin_sets n [] lt) ∙ enumerate_push 0 (take n builtin_sets) (get_or builtin_sets n []) ∙ ap (λ m. enumerate_from 0 (take n builtin_sets) ++ (m, get_or builtin_sets n []) ∷ []) (omega (arith, size)) in
     sym (ap (flat_map builtin_pair) once ∙ flat_map-append builtin_pair (enumerate_from 0 (take n builtin_sets)) ((n, get_or builtin_sets n []) ∷ []))
+
+-- the step over a set whose two edges were added
+pub builtin_step : (n : ℕ) (set internal : List ℕ) (d : Draft) → n < 6 → set ≡ get_or builtin_sets n [] → internal ≡ internal_name
+    → IsDraft ((builtin_upto n ++ record { ordinal = 2 * n; source = set; target = internal; cost = 1; kind = None } ∷ []) ++ record { ordinal = 2 * n + 1; source = internal; target = set; cost = 1; kind = None } ∷ []) d
+    → IsDraft (builtin_upto (n + 1)) d
+builtin_step n set internal d lt set_is internal_is is =
+    let first : NamedEdge = record { ordinal = 2 * n; source = set; target = internal; cost = 1; kind = None } in
+    let next : NamedEdge = record { ordinal = 2 * n + 1; source = internal; target = set; cost = 1; kind = None } in
+    let pair : first ∷ next ∷ [] ≡ builtin_pair (n, get_or builtin_sets n []) = rw (set_is, internal_is) refl in
+    subst (λ es. IsDraft es d) (append_assoc (builtin_upto n) (first ∷ []) (next ∷ []) ∙ ap (λ es. builtin_upto n ++ es) pair ∙ builtin_more n lt) is
 
 length_pairs : (sets : List (ℕ × List ℕ)) → length (flat_map builtin_pair sets) ≡ 2 * length sets
 length_pairs [] = refl
@@ -86,13 +97,30 @@ line_more lines bindings i x old new skipped later added lt d a is n =
     let more : take (i + 1) lines ≡ take i lines ++ y ∷ [] = take_more lines i x lt in
     let edges : named_edges (take (i + 1) lines) bindings ≡ named_edges (take i lines) bindings ++ filter_map (edge_of_line bindings) (y ∷ []) =
     ap (λ ls. named_edges ls bindings) more ∙ ap (λ es. builtin_edges ++ es) (filter_map-append (edge_of_line bindings) (take i lines) (y ∷ [])) ∙ sym (append_assoc builtin_edges (filter_map (edge_of_line bindings) (take i lines)) (filter_map (edge_of_line bindings) (y ∷ []))) in
-    let last : ℕ = cond (skips y) 1 0 in
-    let count : count_by skips (take (i + 1) lines) ≡ count_by skips (take i lines) + last =
-        ap (count_by skips) more ∙ sum_by-append (λ l. cond (skips l) 1 0) (take i lines) (y ∷ []) ∙ ap (λ n. count_by skips (take i lines) + n) (add-zero last)
-    in
-    let weight : Bool → ℕ = λ b. cond (not b) 1 0 in
-    let one : weight added ≡ last = ap weight a in
-    record { draft = subst (λ es. IsDraft es new) (sym edges) is; counted = omega (arith, n, d.counted, count, one) }
+    let weight : Bool → ℕ = λ b. cond b 1 0 in
+    let same : not added ≡ skips y = ap not a in
+    let count : count_by skips (take (i + 1) lines) ≡ count_by skips (take i lines) + weight (skips y) = elim (cases_Bool (skips y)) [
+      | inl yep ↦ count_by_more_yes skips lines i x lt yep ∙ ap (λ b. count_by skips (take i lines) + weight b) (sym yep)
+      | inr nope ↦ count_by_more_no skips lines i x lt nope ∙ sym (add-zero (count_by skips (take i lines))) ∙ ap (λ b. count_by skips (take i lines) + weight b) (sym nope)
+    ] in
+    record { draft = subst (λ es. IsDraft es new) (sym edges) is; counted = n ∙ ap (λ b. skipped + weight b) same ∙ ap (λ m. m + weight (skips y)) d.counted ∙ sym count }
+
+-- fewer lines were passed than there are
+pub few_skipped : (lines : List EdgeLine) (bindings : List Binding) (d : Draft) (skipped : ℕ) → Drafted lines bindings d skipped → skipped ≤ length lines
+few_skipped lines bindings d skipped is = omega (arith, is.counted, count_by-le-length (λ (line : EdgeLine). not (is_some (kind_of_line bindings line))) lines)
+
+-- what `u32::from` gives of a test
+pub bit_is : (b : Bool) → bool_byte b ≡ cond b 1 0
+bit_is true = refl
+bit_is false = refl
+
+pub bit_small : (b : Bool) → cond b 1 0 ≤ 1
+bit_small true = omega arith
+bit_small false = omega arith
+
+-- before any line
+pub drafted_none : (bindings : List Binding) (d : Draft) → IsDraft builtin_edges d → Drafted [] bindings d 0
+drafted_none bindings d is = record { draft = subst (λ es. IsDraft es d) (sym (append-nil builtin_edges)) is; counted = refl }
 
 -- the built-in edges are those of all six sets
 pub builtin_all : builtin_upto 6 ≡ builtin_edges

@@ -1,11 +1,10 @@
 -- Edges while they are numbered. No public clause cites it.
-use Rattle.std.specs.Prelude.{◌≡◌, ℕ, ◌+◌, ◌<◌, ◌^◌, List, length, Option, Some, None}
+use Rattle.std.specs.Prelude.{◌≡◌, ℕ, ◌<◌, ◌^◌, List, length, Option, Some, None}
 use Rattle.std.specs.List.{position_or_len}
 use Rattle.indexmap.specs.IndexSet.{insert_key}
 use Rattle.modules_conf.specs.declared.kind.Kind.{Kind}
 use Rattle.module_graph.specs.declared.draft.Draft.{Draft}
 use Rattle.module_graph.specs.Edges.{NamedEdge}
-use Rattle.module_graph.specs.Graph.{Shape}
 use Rattle.module_graph.specs.Numbers.{same_kind, shape_of}
 
 -- A draft has the nodes, the edges and the modules of the graph of these edges.

@@ -1,5 +1,5 @@
 -- A graph as contracts see it.
-use Rattle.std.specs.Prelude.{ℕ, ◌<◌, ◌≤◌, ◌^◌, ◌==◌, List, length, filter, All, AllPairs}
+use Rattle.std.specs.Prelude.{ℕ, ◌<◌, ◌^◌, ◌==◌, List, length, filter, All, AllPairs}
 use Rattle.modules_conf.specs.declared.kind.Kind.{Kind}
 use Rattle.module_graph.specs.declared.edge.Edge.{Edge}
 

@@ -1,8 +1,7 @@
 -- What a graph keeps beside its edges. No public clause cites it.
-use Rattle.std.specs.Prelude.{◌≡◌, ℕ, ◌<◌, ◌≤◌, ◌+◌, ◌*◌, ◌^◌, List, length, slice_index_or, IsTrue}
+use Rattle.std.specs.Prelude.{◌≡◌, ℕ, ◌<◌, ◌^◌, List, length, slice_index_or}
 use Rattle.std.specs.declared.vec.Vec.{Vec}
 use Rattle.std.specs.declared.alloc.Global.{Global}
-use Rattle.modules_conf.specs.declared.kind.Kind.{Kind}
 use Rattle.module_graph.specs.declared.edge.Edge.{Edge}
 use Rattle.module_graph.specs.Graph.{Shape, IsGraph, edges_into}
 

@@ -3,7 +3,7 @@ ghost use Rattle.std.specs.Prelude.{◌≡◌, ◌==◌, ◌<◌, length, slice_
 ghost use Rattle.std.specs.List.{find};
 ghost use Rattle.std.specs.Option.{option_copied};
 ghost use Rattle.std.specs.Str.{bytes_eq};
-ghost use Rattle.modules_conf.specs.Limits.{IsWithinLimits, AreSound};
+ghost use Rattle.modules_conf.specs.Limits.{IsWithinLimits};
 ghost use Rattle.module_graph.specs.Graph.{IsGraph, edges_into};
 ghost use Rattle.module_graph.specs.Numbers.{graph_of};
 
@@ -44,8 +44,7 @@ impl Graph {
     /// A module line gives one where its module is bound, no end of it is a built-in set other than
     /// INTERNAL, and the ends suit the module's kind. Its ordinal is 15 more than its line's number.
     pub fn build(alloc: Global, conf: &Conf, bindings: &Bindings) -> Result<Graph, AllocError>
-        requires conf { IsWithinLimits conf.now.edges }
-        requires bindings { AreSound bindings.now }
+        requires { IsWithinLimits conf.now.edges }
         ensures { IfOk result (λ graph. graph ≡ graph_of conf.now.edges bindings.now) }
     {
         let (draft, skipped) = drafted(alloc, conf.edges.as_slice(), bindings.as_slice())?;

@@ -1,6 +1,4 @@
-use Rattle.std.proofs.Common.{◌≡◌, take}
-use Rattle.module_graph.specs.Edges.{named_edges, skipped_lines}
-use Rattle.module_graph.specs.Drafts.{IsDraft}
+use Rattle.std.proofs.Common.{take}
 use Rattle.module_graph.proofs.Whole.{Drafted}
 use Rattle.module_graph.proofs.build.drafted.Given as goal
 

@@ -1,4 +1,3 @@
-use Rattle.std.proofs.Common.{take}
 use Rattle.module_graph.specs.Drafts.{IsDraft}
 use Rattle.module_graph.proofs.Whole.{builtin_upto}
 use Rattle.module_graph.proofs.build.with_builtin.Given as goal

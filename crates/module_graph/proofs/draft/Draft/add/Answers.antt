@@ -1,4 +1,3 @@
-use Rattle.std.proofs.Common.{◌≡◌, ◌∙◌, sym, ap, subst, [], ◌∷◌, ◌++◌}
 use Rattle.std.specs.Option.{option_copied}
 use Rattle.module_graph.proofs.Drafting.{added}
 use Rattle.module_graph.proofs.draft.Draft.add.Goals as goal
