@@ -33,7 +33,7 @@ pub fn least<L: Ledger>(
         (TellsLeast graph.now.edges source target)) }
     ensures steps { steps.new ≤ steps.old + length graph.now.edges }
 {
-    let nodes = graph.nodes();
+    let nodes = graph.nodes() as usize;
     let mut known = Table::empty(alloc, nodes)?;
     let mut opened = Table::empty(alloc, nodes)?;
     let mut queue = BTreeSet::new(alloc);
