@@ -1,4 +1,3 @@
-pub mod EmptyTable
 pub mod Scratch
 pub mod Feeds
 pub mod Ends
