@@ -1,8 +1,8 @@
 -- Tables of a few pairs, by hand.
-use Rattle.std.specs.Prelude.{◌≡◌, ℕ, ◌+◌, ◌^◌, nat_lt, List, [], ◌∷◌, refl, length, filter, map, Some, None}
+use Rattle.std.specs.Prelude.{◌≡◌, ℕ, ◌+◌, ◌^◌, nat_lt, List, [], ◌∷◌, refl, length, filter, Some}
 use Rattle.code_pairs.specs.Tables.{Table, code_of}
 use Rattle.code_pairs.specs.declared.Pair.{Pair}
-use Rattle.code_table.specs.Images.{page_count, root_of, image, image_word}
+use Rattle.code_table.specs.Images.{page_count, image, image_word}
 use Rattle.code_table.specs.Looks.{look_of}
 use Rattle.code_table.specs.declared.lookup.Look.TheVariants.{Point, Prefix, Nothing}
 
@@ -30,7 +30,8 @@ one_others = refl
 
 -- U+0041 to U+0044 as 81FE, 81FF, 8200 and 8201.
 abbrev pub four : Table
-four = pair 0x41 (0x81 ∷ 0xFE ∷ []) ∷ pair 0x42 (0x81 ∷ 0xFF ∷ []) ∷ pair 0x43 (0x82 ∷ 0 ∷ []) ∷ pair 0x44 (0x82 ∷ 1 ∷ []) ∷ []
+four = pair 0x41 (0x81 ∷ 0xFE ∷ []) ∷ pair 0x42 (0x81 ∷ 0xFF ∷ []) ∷ pair 0x43 (0x82 ∷ 0 ∷ []) ∷ pair 0x44
+    (0x82 ∷ 1 ∷ []) ∷ []
 
 pub four_pages : page_count four ≡ 6
 four_pages = refl
@@ -51,7 +52,8 @@ twice = pair 0x41 (0x41 ∷ []) ∷ pair 0x41 (0x42 ∷ []) ∷ []
 pub twice_code : code_of twice 0x41 ≡ Some (0x41 ∷ [])
 twice_code = refl
 
-pub twice_points : look_of twice (0x41 ∷ []) ∷ look_of twice (0x42 ∷ []) ∷ [] ≡ Point 0x41 1 ∷ Point 0x41 1 ∷ []
+pub twice_points : look_of twice (0x41 ∷ []) ∷ look_of twice
+    (0x42 ∷ []) ∷ [] ≡ Point 0x41 1 ∷ Point 0x41 1 ∷ []
 twice_points = refl
 
 -- No pairs: an empty decode page and an empty root, and no bytes stand for nothing.
