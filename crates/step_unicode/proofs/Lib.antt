@@ -5,3 +5,4 @@ pub mod Utf16Firsts
 pub mod Utf16Apart
 pub mod Ucs4Fronts
 pub mod Apart
+pub mod ReadBack
