@@ -1,7 +1,7 @@
 //! The first word of a mapping line: a symbol, or two with dots between them.
 
 ghost use Rattle.std.specs.Prelude.{◌≡◌, ◌+◌, ◌<◌, ◌≤◌, IfSome, length};
-ghost use Rattle.code_pairs.specs.Tables.{is_point};
+ghost use Rattle.code_pairs.specs.Tables.{is_point, IsPoint};
 ghost use Rattle.charmap_words.specs.Places.{four, number_in};
 ghost use Rattle.charmap_words.specs.Symbols.{symbol, behind_dots, dotted, span_of};
 
@@ -61,7 +61,8 @@ fn is_point(number: u32) -> bool
 /// The point of a word that is one symbol.
 #[tactic(auto, using(crate::proofs::SymbolPlaces::symbol_places))]
 fn symbol(word: &[u8]) -> Option<u32>
-    ensures { result ≡ symbol word.now }
+    ensures value { result ≡ symbol word.now }
+    ensures point { IfSome result (λ point. IsPoint point) }
 {
     let number = number_in(word)?;
     if is_point(number) { Some(number) } else { None }
@@ -81,7 +82,8 @@ fn behind_dots(word: &[u8]) -> &[u8]
 /// The span of a word whose first symbol has `count` bytes.
 #[tactic(auto, using(crate::proofs::SymbolPlaces::dotted_short))]
 fn dotted(count: usize, word: &[u8]) -> Option<Span>
-    ensures { result ≡ dotted count word.now }
+    ensures value { result ≡ dotted count word.now }
+    ensures points { IfSome result (λ span. IsPoint span.first × IsPoint span.last) }
 {
     if word.len() < count {
         return None;
@@ -94,7 +96,8 @@ fn dotted(count: usize, word: &[u8]) -> Option<Span>
 /// Reads a first word such as `<U0041>` or `<U0041>..<U005A>`: symbols have 4 or 8 hexadecimal
 /// digits of either case, and two or three dots part the ends of a span. Anything else is None.
 pub fn read_span(word: &[u8]) -> Option<Span>
-    ensures { result ≡ span_of word.now }
+    ensures value { result ≡ span_of word.now }
+    ensures points { IfSome result (λ span. IsPoint span.first × IsPoint span.last) }
 {
     if let Some(point) = symbol(word) {
         return Some(Span {

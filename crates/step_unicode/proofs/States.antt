@@ -129,3 +129,12 @@ short Utf16 = short_marked
 short Utf16Le = λ s p. omega (arith, short_little p)
 short Utf16Be = λ s p. omega (arith, short_big p)
 short Ucs4 = λ s p. omega arith
+
+-- the initial state is one of every set
+pub plain_is_state : (set : Uni) → IsStateOf set Plain
+plain_is_state Ascii = refl
+plain_is_state Utf8 = refl
+plain_is_state Utf16 = refl
+plain_is_state Utf16Le = refl
+plain_is_state Utf16Be = refl
+plain_is_state Ucs4 = refl

@@ -15,5 +15,5 @@ mod wrote;
 pub use laws::{spellings_join, units_are_apart};
 pub use set::{State, Uni, Unit};
 pub use small::Small;
-pub use units::{read_unit, write_unit};
+pub use units::{read_unit, write_at, write_unit};
 pub use wrote::Wrote;

@@ -26,7 +26,7 @@ pub fn read_unit(set: Uni, state: State, input: &[u8]) -> Unit
 }
 
 /// Writes a point behind the first `at` bytes of `output`.
-fn write_at(set: Uni, state: State, point: u32, output: &mut [u8], at: usize) -> Wrote
+pub fn write_at(set: Uni, state: State, point: u32, output: &mut [u8], at: usize) -> Wrote
     requires state { IsStateOf set state }
     requires at { at ≤ length output.old }
     ensures { IsWrote (IsSpellable set) (spelling set) state point at output.old output.new result }
