@@ -2,7 +2,9 @@
 //! text, which says by which charmaps a module reads and writes.
 #![tactic(auto)]
 
+mod binding_words;
 mod bindings;
+mod charmaps;
 mod conf;
 mod cost;
 mod fault;
@@ -10,6 +12,7 @@ mod kind;
 mod limits;
 mod lines;
 mod modules;
+ 
 mod words;
 #[cfg(test)]
 mod tests;
