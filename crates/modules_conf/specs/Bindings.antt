@@ -92,10 +92,10 @@ ok_of (Err _) = None
 abbrev pub bind_lines : List ℕ → List Binding
 bind_lines text = filter_map (λ row. ok_of (binding_of row.0 row.1)) (rows text)
 
-abbrev pub bindings_unless : List ℕ → Option BindFault → Result (List Binding) BindFault
-bindings_unless text (Some fault) = Err fault
-bindings_unless text None = Ok (bind_lines text)
+abbrev pub bindings_unless : Option BindFault → List Binding → Result (List Binding) BindFault
+bindings_unless None bindings = Ok bindings
+bindings_unless (Some fault) bindings = Err fault
 
 -- The bindings that a text stands for, or its first fault.
 abbrev pub bindings_of : List ℕ → Result (List Binding) BindFault
-bindings_of text = bindings_unless text (bind_fault text)
+bindings_of text = bindings_unless (bind_fault text) (bind_lines text)

@@ -2,6 +2,7 @@
 //! text, which says by which charmaps a module reads and writes.
 #![tactic(auto)]
 
+mod binding_reader;
 mod binding_words;
 mod bindings;
 mod charmaps;
@@ -17,6 +18,7 @@ mod words;
 #[cfg(test)]
 mod tests;
 
+pub use binding_reader::read_bindings;
 pub use bindings::{Binding, Bindings};
 pub use conf::Conf;
 pub use fault::{BindFault, ConfFault};
