@@ -38,7 +38,7 @@ with_row-at : (done : List Binding) (line : ℕ) (ws : List (List ℕ)) (b : Bin
     → list_any (bytes_eq b.name) (map (λ (b : Binding). b.name) done) ≡ twice → with_row done (line, ws) ≡ unless_twice done line twice (Ok b)
 with_row-at done line ws b twice few is bound =
     let same : is_name_of done (bound_name (line, ws)) ≡ twice =
-      ap (is_name_of done) (sym (name-binding_of line ws b is)) ∙ sym (is_name_of-map done b.name) ∙ bound in
+    ap (is_name_of done) (sym (name-binding_of line ws b is)) ∙ sym (is_name_of-map done b.name) ∙ bound in
     rw (lt-leb MOST_LINES (length done) few, same, is) refl
 
 -- A line that binds a bound name is refused.

@@ -57,9 +57,9 @@ with_rows-left all read (row ∷ rest) done n is at count same =
     let oks : List Binding = filter_map (λ row. ok_of (binding_of row.0 row.1)) rest in
     ap (λ o. bindings_unless (slice_get (cons_option o faults) 0) (done ++ cons_option (ok_of (binding_of row.0 row.1)) oks)) (fault_here all read rest row done n is at count same)
     ∙ one_row (nat_le MOST_LINES (length done)) (is_name_of done (bound_name row)) row.0 (binding_of row.0 row.1) done faults oks (with_rows rest)
-        (λ b read_as. with_rows-left all (read ++ row ∷ []) rest (done ++ b ∷ []) (n + 1) (is ∙ sym (append_assoc read (row ∷ []) rest))
-          (omega (arith, length-append read (row ∷ []))) (omega (arith, length-append done (b ∷ [])))
-          (SameNames-push read done row b same (name-binding_of row.0 row.1 b read_as)))
+    (λ b read_as. with_rows-left all (read ++ row ∷ []) rest (done ++ b ∷ []) (n + 1) (is ∙ sym (append_assoc read (row ∷ []) rest))
+    (omega (arith, length-append read (row ∷ []))) (omega (arith, length-append done (b ∷ [])))
+    (SameNames-push read done row b same (name-binding_of row.0 row.1 b read_as)))
 
 -- The model of a text is what its lines give, one after another.
 pub bindings_of-rows : (text : List ℕ) → bindings_of text ≡ with_rows (rows text) []
@@ -131,10 +131,10 @@ unfolding with_rows
 AreSound-with_rows [] done bs sound is = let same : done ≡ bs = cc in subst AreSound same sound
 AreSound-with_rows (row ∷ rest) done bs sound is =
     AreSound-rest (with_row done row) (with_rows rest) bs
-      (λ more taken left. AreSound-with_rows rest more bs (AreSound-row done more row (nat_le MOST_LINES (length done)) sound taken) left) is
+    (λ more taken left. AreSound-with_rows rest more bs (AreSound-row done more row (nat_le MOST_LINES (length done)) sound taken) left) is
 
 -- The bindings that a text stands for are sound.
 pub AreSound-bindings_of : (text : List ℕ) (bs : List Binding) → bindings_of text ≡ Ok bs → AreSound bs
 AreSound-bindings_of text bs is =
     AreSound-with_rows (rows text) [] bs (record { distinct = λ i j d below lt. absurd (omega arith); charmaps = All-nil (λ (x : Binding). names_charmaps x.kind ≡ true) })
-      (sym (bindings_of-rows text) ∙ is)
+    (sym (bindings_of-rows text) ∙ is)

@@ -24,14 +24,10 @@ fn take_row(
     requires some { All (λ word. 0 < length word.now) words.now }
     requires names { names.old.keys ≡ map (λ b. b.name) bindings.old }
     ensures names { OnOk result (names.new.keys ≡ map (λ b. b.name) bindings.new) }
-    ensures ok {
-        OnOk result
-            (with_row bindings.old (line, map (λ word. word.now) words.now) ≡ Ok bindings.new)
-    }
-    ensures err {
-        IfErr result (λ fault. fault ≢ BindFault.Memory
-            → with_row bindings.old (line, map (λ word. word.now) words.now) ≡ Err fault)
-    }
+    ensures ok { OnOk result
+        (with_row bindings.old (line, map (λ word. word.now) words.now) ≡ Ok bindings.new) }
+    ensures err { IfErr result (λ fault. fault ≢ BindFault.Memory
+        → with_row bindings.old (line, map (λ word. word.now) words.now) ≡ Err fault) }
 {
     if bindings.as_slice().len() >= MOST_LINES {
         return Err(BindFault::TooMany { line });
@@ -63,10 +59,8 @@ fn take_line(
     requires names { names.old.keys ≡ map (λ b. b.name) bindings.old }
     ensures names { OnOk result (names.new.keys ≡ map (λ b. b.name) bindings.new) }
     ensures ok { OnOk result (Binds bindings.old number line.now bindings.new) }
-    ensures err {
-        IfErr result (λ fault. fault ≢ BindFault.Memory
-            → RefusesRow bindings.old number line.now fault)
-    }
+    ensures err { IfErr result (λ fault. fault ≢ BindFault.Memory
+        → RefusesRow bindings.old number line.now fault) }
 {
     let words = first_words::<5>(line);
     let words = words.as_slice();
@@ -84,11 +78,9 @@ fn take_line(
 /// no name is bound twice. The first faulty line is refused; the first line beyond 16,384 is one.
 pub fn read_bindings(alloc: Global, text: &[u8]) -> Result<Bindings, BindFault>
     requires { length text.now ≤ MOST_BYTES }
-    ensures value {
-        MatchResult result
-            (λ bindings. bindings_of text.now ≡ Ok bindings)
-            (λ fault. fault ≢ BindFault.Memory → bindings_of text.now ≡ Err fault)
-    }
+    ensures value { MatchResult result
+        (λ bindings. bindings_of text.now ≡ Ok bindings)
+        (λ fault. fault ≢ BindFault.Memory → bindings_of text.now ≡ Err fault) }
     ensures sound { IfOk result AreSound }
 {
     let mut bindings = Bindings::new(alloc);

@@ -26,9 +26,7 @@ pub(crate) fn counts(words: &[&[u8]]) -> bool
 
 /// A table over one charmap: None where the word names none.
 fn read_table(line: u32, maps: &[&[u8]]) -> Result<Option<Kind>, BindFault>
-    ensures {
-        result ≡ checked_kind (kind_unless line (one_map (map (λ word. word.now) maps.now)))
-    }
+    ensures { result ≡ checked_kind (kind_unless line (one_map (map (λ word. word.now) maps.now))) }
 {
     match maps {
         [map] => Ok(match charmap_word(map) {
@@ -41,10 +39,8 @@ fn read_table(line: u32, maps: &[&[u8]]) -> Result<Option<Kind>, BindFault>
 
 /// ISO-2022-JP over two charmaps, where both words name one.
 fn iso2022jp(roman: &[u8], kanji: &[u8]) -> Option<Kind>
-    ensures {
-        result ≡ (if names_charmaps (Kind.Iso2022Jp roman.now kanji.now)
-            then Some (Kind.Iso2022Jp roman.now kanji.now) else None)
-    }
+    ensures { result ≡ (if names_charmaps (Kind.Iso2022Jp roman.now kanji.now)
+        then Some (Kind.Iso2022Jp roman.now kanji.now) else None) }
 {
     Some(Kind::Iso2022Jp {
         roman: charmap_word(roman)?,
@@ -54,10 +50,8 @@ fn iso2022jp(roman: &[u8], kanji: &[u8]) -> Option<Kind>
 
 /// A recoding from one charmap to another, where both words name one.
 fn recode(first: &[u8], second: &[u8]) -> Option<Kind>
-    ensures {
-        result ≡ (if names_charmaps (Kind.Recode first.now second.now)
-            then Some (Kind.Recode first.now second.now) else None)
-    }
+    ensures { result ≡ (if names_charmaps (Kind.Recode first.now second.now)
+        then Some (Kind.Recode first.now second.now) else None) }
 {
     Some(Kind::Recode {
         first: charmap_word(first)?,
@@ -67,10 +61,8 @@ fn recode(first: &[u8], second: &[u8]) -> Option<Kind>
 
 /// ISO-2022-JP over two charmaps: None where a word names none.
 fn read_iso2022jp(line: u32, maps: &[&[u8]]) -> Result<Option<Kind>, BindFault>
-    ensures {
-        result ≡ checked_kind (kind_unless line
-            (two_maps (λ roman kanji. Kind.Iso2022Jp roman kanji) (map (λ word. word.now) maps.now)))
-    }
+    ensures { result ≡ checked_kind (kind_unless line
+        (two_maps (λ roman kanji. Kind.Iso2022Jp roman kanji) (map (λ word. word.now) maps.now))) }
 {
     match maps {
         [roman, kanji] => Ok(iso2022jp(roman, kanji)),
@@ -81,10 +73,8 @@ fn read_iso2022jp(line: u32, maps: &[&[u8]]) -> Result<Option<Kind>, BindFault>
 
 /// A recoding from one charmap to another: None where a word names none.
 fn read_recode(line: u32, maps: &[&[u8]]) -> Result<Option<Kind>, BindFault>
-    ensures {
-        result ≡ checked_kind (kind_unless line
-            (two_maps (λ first second. Kind.Recode first second) (map (λ word. word.now) maps.now)))
-    }
+    ensures { result ≡ checked_kind (kind_unless line
+        (two_maps (λ first second. Kind.Recode first second) (map (λ word. word.now) maps.now))) }
 {
     match maps {
         [first, second] => Ok(recode(first, second)),
@@ -95,9 +85,7 @@ fn read_recode(line: u32, maps: &[&[u8]]) -> Result<Option<Kind>, BindFault>
 
 /// The kind that the words behind a name stand for: None where one of them names no charmap.
 fn read_kind(line: u32, kind: &[u8], maps: &[&[u8]]) -> Result<Option<Kind>, BindFault>
-    ensures {
-        result ≡ checked_kind (kind_of line kind.now (map (λ word. word.now) maps.now))
-    }
+    ensures { result ≡ checked_kind (kind_of line kind.now (map (λ word. word.now) maps.now)) }
 {
     if kind == b"table".as_slice() {
         read_table(line, maps)
@@ -113,10 +101,8 @@ fn read_kind(line: u32, kind: &[u8], maps: &[&[u8]]) -> Result<Option<Kind>, Bin
 /// The binding of a name, unless a word is none.
 fn bind(line: u32, name: &[u8], kind: Result<Option<Kind>, BindFault>) -> Result<Binding, BindFault>
     requires { 0 < length name.now }
-    ensures {
-        (read : Result Kind BindFault) → kind ≡ checked_kind read
-            → result ≡ binding_unless line name.now read
-    }
+    ensures { (read : Result Kind BindFault) → kind ≡ checked_kind read
+        → result ≡ binding_unless line name.now read }
 {
     match kind {
         Err(fault) => Err(fault),

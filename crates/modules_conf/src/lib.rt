@@ -13,10 +13,9 @@ mod kind;
 mod limits;
 mod lines;
 mod modules;
- 
-mod words;
 #[cfg(test)]
 mod tests;
+mod words;
 
 pub use binding_reader::read_bindings;
 pub use bindings::{Binding, Bindings};

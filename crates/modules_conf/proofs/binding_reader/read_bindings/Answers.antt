@@ -22,7 +22,7 @@ returns-clause-value c =
 pub returns-clause-sound : goal.returns-clause-sound
 returns-clause-sound c =
     let value : bindings_of c.args.text.now ≡ Ok c.loop-line.bindings =
-      c.loop-line.invariant.value
-      ∙ ap (λ rest. with_rows (rows_among (enumerate_from (c.loop-line.number + 1) (lines rest))) c.loop-line.bindings) c.in_default.ensures.found
-      ∙ with_rows-end c.loop-line.bindings in
+    c.loop-line.invariant.value
+    ∙ ap (λ rest. with_rows (rows_among (enumerate_from (c.loop-line.number + 1) (lines rest))) c.loop-line.bindings) c.in_default.ensures.found
+    ∙ with_rows-end c.loop-line.bindings in
     AreSound-bindings_of c.args.text.now c.loop-line.bindings value
