@@ -3,3 +3,4 @@ pub mod Modules
 pub mod Charmaps
 pub mod Bindings
 pub mod Limits
+pub mod Reading

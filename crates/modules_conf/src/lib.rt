@@ -4,10 +4,13 @@
 
 mod bindings;
 mod conf;
+mod cost;
 mod fault;
 mod kind;
 mod limits;
 mod lines;
+mod modules;
+mod words;
 #[cfg(test)]
 mod tests;
 
@@ -17,3 +20,4 @@ pub use fault::{BindFault, ConfFault};
 pub use kind::Kind;
 pub use limits::{MOST_BYTES, MOST_COST, MOST_LINES};
 pub use lines::{AliasLine, AliasLines, EdgeLine, EdgeLines};
+pub use modules::read_modules;

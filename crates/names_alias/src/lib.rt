@@ -3,6 +3,7 @@
 //! A name is two parts, each ended by a slash, in upper case: `ISO-8859-1//`, `ISO-10646/UCS4/`.
 #![tactic(auto)]
 
+mod aliases;
 mod builtin;
 mod fault;
 mod form;
@@ -12,6 +13,7 @@ mod name;
 mod tests;
 mod word;
 
+pub use aliases::Aliases;
 pub use builtin::{builtin_set, internal, is_builtin};
 pub use fault::NameFault;
 pub use form::normal;

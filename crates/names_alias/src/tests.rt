@@ -2,7 +2,8 @@
 
 ghost use Rattle.std.specs.Prelude.{◌≤◌, length};
 
-use crate::{Name, NameFault, Word, builtin_set, internal, is_builtin, normal};
+use crate::{Aliases, Name, NameFault, Word, builtin_set, internal, is_builtin, normal};
+use std::test::Fail;
 
 #[test]
 fn makes_normal_forms(rt: HostRuntime) {
@@ -69,4 +70,32 @@ fn bounds_words(rt: HostRuntime) {
         Some(word) => assert!(rt; word.copied() == word && word.as_bytes().len() == 64),
         None => assert!(rt; false),
     }
+}
+
+/// Whether a text names the set of these bytes.
+fn names(aliases: &Aliases, text: &[u8], want: &[u8]) -> bool
+    requires { length text.now ≤ 16777216 }
+{
+    match aliases.caller_name(text) {
+        Ok(name) => name.as_bytes() == want,
+        Err(_) => false,
+    }
+}
+
+#[test]
+fn resolves_once(rt: HostRuntime) -> Result<(), Fail> {
+    let mut aliases = Aliases::new(rt.alloc());
+    assert!(rt; names(&aliases, b"utf8", b"UTF-8//"));
+    assert!(rt; names(&aliases, b"us-ascii", b"ASCII//"));
+    assert!(rt; matches!(aliases.caller_name(b"internal"), Err(NameFault::Reserved)));
+    aliases.add(&name_or_internal(b"x"), &name_or_internal(b"y"))?;
+    aliases.add(&name_or_internal(b"y"), &builtin_set(1))?;
+    aliases.add(&name_or_internal(b"x"), &builtin_set(0))?;
+    aliases.add(&name_or_internal(b"z"), &internal())?;
+    assert!(rt; names(&aliases, b"X", b"Y//"));
+    assert!(rt; aliases.resolve(&name_or_internal(b"y")) == builtin_set(1));
+    assert!(rt; matches!(aliases.caller_name(b"z"), Err(NameFault::Reserved)));
+    aliases.fix(&name_or_internal(b"x"))?;
+    assert!(rt; names(&aliases, b"x", b"X//"));
+    Ok(())
 }
