@@ -1,5 +1,5 @@
 //! The graph.
-ghost use Rattle.std.specs.Prelude.{ℕ, List, ◌≡◌, ◌==◌, ◌<◌, length, slice_get, position, Some, IfOk};
+ghost use Rattle.std.specs.Prelude.{ℕ, List, ◌≡◌, ◌==◌, ◌<◌, length, slice_get, position, Some, IfSome, IfOk};
 ghost use Rattle.std.specs.List.{find, list_any};
 ghost use Rattle.std.specs.Option.{option_copied};
 ghost use Rattle.std.specs.Str.{bytes_eq};
@@ -92,7 +92,8 @@ impl Graph {
 
     /// The node of a name, or none where the name is no end of an edge.
     pub fn node_of(&self, name: &Name) -> Option<u32>
-        ensures { result ≡ position (bytes_eq name.now) self.now.nodes }
+        ensures value { result ≡ position (bytes_eq name.now) self.now.nodes }
+        ensures within { IfSome result (λ node. node < length self.now.nodes) }
     {
         match self.names.get_index_of(name) {
             Some(node) => Some(node as u32),
