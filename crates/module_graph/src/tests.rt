@@ -96,7 +96,8 @@ fn keeps_kinds_and_passes_lines_over(rt: HostRuntime) -> Result<(), Fail> {
     if graph.modules() > 0 {
         assert!(rt; *graph.kind_of(0) == kind);
     }
-    let internal = graph.edges_into(1);
-    assert_eq!(rt; internal.len(), 8);
+    if graph.nodes() > 1 {
+        assert_eq!(rt; graph.edges_into(1).len(), 8);
+    }
     Ok(())
 }
