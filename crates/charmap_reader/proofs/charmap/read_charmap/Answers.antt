@@ -1,7 +1,5 @@
-use Rattle.std.proofs.Common.{◌≡◌, ◌+◌, ◌-◌, ◌∙◌, arith, sym, ap, length, subst}
-use Rattle.text_lines.specs.Lines.{lines}
-use Rattle.charmap_reader.specs.Rows.{rows_of}
-use Rattle.charmap_reader.specs.Scan.{scan, Fails}
+use Rattle.std.proofs.Common.{◌∙◌, arith, sym, subst}
+use Rattle.charmap_reader.specs.Scan.{Fails}
 use Rattle.charmap_reader.proofs.Scans.{length-lines, charmap_read}
 use Rattle.charmap_reader.proofs.charmap.read_charmap.Goals as goal
 
