@@ -1,6 +1,6 @@
 //! The words of a line, one after another.
 
-ghost use Rattle.std.specs.Prelude.{◌≡◌, ◌<◌, ◌≤◌, ◌∷◌, [], ℕ, true, false, length, map, take, drop, slice_index, IfSome, MatchOption};
+ghost use Rattle.std.specs.Prelude.{◌≡◌, ◌<◌, ◌≤◌, ◌∷◌, [], ℕ, true, false, length, map, take, drop, slice_index, All, IfSome, MatchOption};
 ghost use Rattle.text_lines.specs.Words.{is_blank, words};
 
 use arrayvec::ArrayVec;
@@ -41,6 +41,7 @@ fn word_end(line: &[u8]) -> usize
 /// The first word of `line`, and what stands behind it.
 pub fn next_word(line: &[u8]) -> Option<(&[u8], &[u8])>
     ensures found { MatchOption result (words line.now ≡ []) (λ r. words line.now ≡ r.0.now ∷ words r.1.now) }
+    ensures sized { IfSome result (λ r. (0 < length r.0.now) × (length r.0.now ≤ length line.now)) }
     ensures shorter { IfSome result (λ r. length r.1.now < length line.now) }
 {
     let rest = &line[word_start(line)..];
@@ -53,7 +54,8 @@ pub fn next_word(line: &[u8]) -> Option<(&[u8], &[u8])>
 
 /// The first words of `line`, at most `N`.
 pub fn first_words<const N: usize>(line: &[u8]) -> ArrayVec<&[u8], N>
-    ensures { map (λ word. word.now) result.items ≡ take N (words line.now) }
+    ensures value { map (λ word. word.now) result.items ≡ take N (words line.now) }
+    ensures sized { All (λ word. (0 < length word.now) × (length word.now ≤ length line.now)) result.items }
 {
     let mut found = ArrayVec::new();
     let mut rest = line;
