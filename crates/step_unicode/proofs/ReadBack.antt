@@ -114,8 +114,8 @@ utf16_reads Plain (p ∷ q) is all =
     }
 utf16_reads Little q is all = little_reads q all
 utf16_reads Big q is all = list_reads (IsUnit Utf16) Big (utf16 big_bytes) IsPoint (λ p unit. (p, big_unit p unit, refl, refl)) q all
-utf16_reads Roman q is all = absurd is
-utf16_reads Kanji q is all = absurd is
+utf16_reads Roman q is all = cc
+utf16_reads Kanji q is all = cc
 
 -- a list that a set spells is read as that list, and the states after it are the same
 pub reads_back : (set : Uni) (s : State) (q : List ℕ) → IsStateOf set s → AllByRecursion (IsSpellable set) q →
