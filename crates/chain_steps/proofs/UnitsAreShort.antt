@@ -1,8 +1,13 @@
 -- A unit of every set, and what ends a text of it, has at most eight bytes.
+<<<<<<< HEAD
 use Rattle.std.proofs.Common.{◌≡◌, ℕ, ◌<◌, ◌≤◌, List, [], ◌∷◌, ◌++◌, length, Option, Some, refl, ap, inl, inr, arith, length-append}
 use Rattle.std.proofs.lemmas.List.{nil_from_length}
 use Rattle.code_pairs.specs.Tables.{Tables, table_at}
 use Rattle.step_iso2022jp.specs.Sets.{IsJpUnit, IsGraphicUnit}
+=======
+use Rattle.std.proofs.Common.{ℕ, ◌<◌, ◌≤◌, List, [], ◌∷◌, ◌++◌, length, Option, inl, inr, arith, length-append}
+use Rattle.code_pairs.specs.Tables.{Tables}
+>>>>>>> 316037d7893e3dce4eeebbfb822be88a433f9f7a
 use Rattle.unit_relations.specs.Units.{IsPartial}
 use Rattle.unit_relations.proofs.Room.{some_length}
 use Rattle.step_unicode.specs.declared.set.Uni.{Uni}
