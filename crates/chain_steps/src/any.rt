@@ -17,9 +17,13 @@ pub struct ReadAny {
 impl ReadSet for ReadAny {
     ghost set = { λ r. r.set };
 
-    fn read<T: Lookup>(&self, _tables: &mut T, state: State, input: &[u8]) -> Unit {
+    fn read<T: Lookup>(&self, tables: &mut T, state: State, input: &[u8]) -> Unit {
         match self.set {
             Set::Unicode(uni) => step_unicode::read_unit(uni, state, input),
+            Set::Table(table) => step_table::read_unit(tables, table, state, input),
+            Set::Iso2022Jp { roman, kanji } => {
+                step_iso2022jp::read_unit(tables, roman, kanji, state, input)
+            }
         }
     }
 }
@@ -35,7 +39,7 @@ impl WriteSet for WriteAny {
 
     fn write<T: Lookup>(
         &self,
-        _tables: &mut T,
+        tables: &mut T,
         state: State,
         point: u32,
         output: &mut [u8],
@@ -43,6 +47,10 @@ impl WriteSet for WriteAny {
     ) -> Wrote {
         match self.set {
             Set::Unicode(uni) => step_unicode::write_at(uni, state, point, output, at),
+            Set::Table(table) => step_table::write(tables, table, state, point, output, at),
+            Set::Iso2022Jp { roman, kanji } => {
+                step_iso2022jp::write(tables, roman, kanji, state, point, output, at)
+            }
         }
     }
 }

@@ -3,14 +3,17 @@
 
 mod any;
 mod between;
+mod choose_reader;
+mod choose_writer;
 mod converter;
-mod dispatch;
 mod joints;
 mod laws;
 mod loops;
 mod read;
 mod recipe;
 mod runner;
+#[cfg(test)]
+mod tests;
 mod write;
 
 pub use converter::{Bound, Converter};

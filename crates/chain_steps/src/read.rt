@@ -1,7 +1,7 @@
 //! The sets that a chain reads, one type each, so that the loop is made for each of them.
 
 ghost use Rattle.step_unicode.specs.declared.set.Uni.TheVariants.{Ascii, Utf8, Utf16, Utf16Le, Utf16Be, Ucs4};
-ghost use Rattle.chain_steps.specs.declared.recipe.Set.TheVariants.{Unicode};
+ghost use Rattle.chain_steps.specs.declared.recipe.Set.TheVariants.{Unicode, Table, Iso2022Jp};
 
 use crate::recipe::Set;
 use code_table::Lookup;
@@ -98,5 +98,34 @@ impl ReadSet for ReadUcs4 {
     #[inline(always)]
     fn read<T: Lookup>(&self, _tables: &mut T, state: State, input: &[u8]) -> Unit {
         ucs4::read(state, input)
+    }
+}
+
+#[derive(Clone, Copy)]
+pub struct ReadTable {
+    pub table: u32,
+}
+
+impl ReadSet for ReadTable {
+    ghost set = { λ r. Table r.table };
+
+    #[inline(always)]
+    fn read<T: Lookup>(&self, tables: &mut T, state: State, input: &[u8]) -> Unit {
+        step_table::read_unit(tables, self.table, state, input)
+    }
+}
+
+#[derive(Clone, Copy)]
+pub struct ReadIso2022Jp {
+    pub roman: u32,
+    pub kanji: u32,
+}
+
+impl ReadSet for ReadIso2022Jp {
+    ghost set = { λ r. Iso2022Jp r.roman r.kanji };
+
+    #[inline(always)]
+    fn read<T: Lookup>(&self, tables: &mut T, state: State, input: &[u8]) -> Unit {
+        step_iso2022jp::read_unit(tables, self.roman, self.kanji, state, input)
     }
 }

@@ -8,13 +8,13 @@ ghost use Rattle.chain_steps.specs.Resets.{IsReturned, IsReset};
 
 use crate::any::{ReadAny, WriteAny};
 use crate::between::Straight;
-use crate::dispatch::convert_between;
+use crate::choose_reader::convert_between;
 use crate::joints::Through;
 use crate::loops::{Stopping, convert_with};
 use crate::recipe::{Progress, Recipe, Reset, Set};
 use code_table::Lookup;
 use std::marker::Model;
-use step_unicode::State;
+use step_unicode::{Small, State};
 
 /// A chain, and the states of its reader and its writer. A clause sees the record of the three.
 #[derive(Drop)]
@@ -140,12 +140,27 @@ fn convert_recipe<T: Lookup>(
 }
 
 /// Writes the return sequence at the front of `output`, or answers how it doesn't fit.
-fn write_return(set: Set, _state: State, _output: &mut [u8]) -> Reset
-    ensures { IsReturned (return_of set _state) _output.old _output.new result }
+fn write_return(set: Set, state: State, output: &mut [u8]) -> Reset
+    requires { IsStateIn set state }
+    ensures { IsReturned (return_of set state) output.old output.new result }
 {
     match set {
         Set::Unicode(_) => Reset::Closed { produced: 0 },
+        Set::Table(_) => Reset::Closed { produced: 0 },
+        Set::Iso2022Jp { .. } => write_whole(step_iso2022jp::close_shift(state), output),
     }
+}
+
+/// Writes bytes at the front of `output`, or answers that they don't fit.
+fn write_whole(bytes: Small, output: &mut [u8]) -> Reset
+    ensures { IsReturned bytes output.old output.new result }
+{
+    let count = bytes.len();
+    if output.len() < count {
+        return Reset::Full;
+    }
+    output[..count].copy_from_slice(bytes.as_slice());
+    Reset::Closed { produced: count }
 }
 
 impl Runner {
@@ -197,6 +212,7 @@ impl Runner {
     /// Writes the return sequence of the writer's set, and puts both states to `Plain`.
     pub fn reset<T: Lookup>(&mut self, _tables: &mut T, output: &mut [u8]) -> Reset
         ensures reset { IsReset self.old self.new output.old output.new result }
+        ensures recipe { self.new.recipe ≡ self.old.recipe }
         ensures same { _tables.new ≡ _tables.old }
     {
         let answer = write_return(self.recipe.writer, self.writing, output);

@@ -1,7 +1,7 @@
 //! The sets that a chain writes, one type each, so that the loop is made for each of them.
 
 ghost use Rattle.step_unicode.specs.declared.set.Uni.TheVariants.{Ascii, Utf8, Utf16, Utf16Le, Utf16Be, Ucs4};
-ghost use Rattle.chain_steps.specs.declared.recipe.Set.TheVariants.{Unicode};
+ghost use Rattle.chain_steps.specs.declared.recipe.Set.TheVariants.{Unicode, Table, Iso2022Jp};
 
 use crate::recipe::Set;
 use code_table::Lookup;
@@ -148,5 +148,48 @@ impl WriteSet for WriteUcs4 {
         at: usize,
     ) -> Wrote {
         ucs4::write(state, point, output, at)
+    }
+}
+
+#[derive(Clone, Copy)]
+pub struct WriteTable {
+    pub table: u32,
+}
+
+impl WriteSet for WriteTable {
+    ghost set = { λ w. Table w.table };
+
+    #[inline(always)]
+    fn write<T: Lookup>(
+        &self,
+        tables: &mut T,
+        state: State,
+        point: u32,
+        output: &mut [u8],
+        at: usize,
+    ) -> Wrote {
+        step_table::write(tables, self.table, state, point, output, at)
+    }
+}
+
+#[derive(Clone, Copy)]
+pub struct WriteIso2022Jp {
+    pub roman: u32,
+    pub kanji: u32,
+}
+
+impl WriteSet for WriteIso2022Jp {
+    ghost set = { λ w. Iso2022Jp w.roman w.kanji };
+
+    #[inline(always)]
+    fn write<T: Lookup>(
+        &self,
+        tables: &mut T,
+        state: State,
+        point: u32,
+        output: &mut [u8],
+        at: usize,
+    ) -> Wrote {
+        step_iso2022jp::write(tables, self.roman, self.kanji, state, point, output, at)
     }
 }

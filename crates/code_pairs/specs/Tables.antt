@@ -1,5 +1,6 @@
 -- What a table means: a table is the list of its pairs of a point and a code.
 use Rattle.std.specs.Prelude.{◌≡◌, ℕ, Bool, ◌&&◌, ◌||◌, ◌==◌, if◌then◌else◌, nat_le, nat_lt, IsTrue, List, [], ◌∷◌, ◌++◌, Option, Some, None, slice_index_or}
+use Rattle.std.specs.List.{AllByRecursion}
 use Rattle.std.specs.Str.{bytes_eq}
 use Rattle.code_pairs.specs.Bytes.{IsCodeForm}
 pub use Rattle.code_pairs.specs.declared.pair.Pair.{Pair}
@@ -30,6 +31,10 @@ is_point n = nat_lt n 0xD800 || (nat_le 0xE000 n && nat_le n 0x10FFFF)
 
 abbrev pub IsPoint : ℕ → Type 0
 IsPoint n = IsTrue (is_point n)
+
+-- The number of each pair is a point.
+abbrev pub HasPoints : Table → Type 0
+HasPoints table = AllByRecursion (λ (p : Pair). IsPoint p.point) table
 
 -- In the table the bytes are a code of the point.
 abbrev pub IsCode : Table → List ℕ → ℕ → Type 0

@@ -1,1 +1,7 @@
 pub mod LookLaws
+pub mod Known
+pub mod Numbers
+pub mod SameLooks
+pub mod PointPaths
+pub mod ImageLaws
+pub mod BuildLaws

@@ -1,0 +1,3 @@
+pub mod SymbolPlaces
+pub mod BytePlaces
+pub mod Spellings

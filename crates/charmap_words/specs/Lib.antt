@@ -1,0 +1,5 @@
+pub mod Digits
+pub mod Symbols
+pub mod Spelling
+pub mod Places
+pub mod Rows

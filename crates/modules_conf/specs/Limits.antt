@@ -1,0 +1,19 @@
+-- What holds of every configuration and of all bindings that were read.
+use Rattle.std.specs.Prelude.{◌≡◌, ◌≢◌, ◌≤◌, Bool, true, ◌&&◌, List, length, map, All, AllPairs}
+use Rattle.std.specs.List.Sorted.{IsStrictlyIncreasing}
+use Rattle.modules_conf.specs.Charmaps.{names_charmaps}
+use Rattle.modules_conf.specs.declared.limits.TheConstants.{MOST_BYTES, MOST_COST, MOST_LINES}
+use Rattle.modules_conf.specs.declared.lines.EdgeLine.{EdgeLine}
+use Rattle.modules_conf.specs.declared.bindings.Binding.{Binding}
+
+-- The module lines of a configuration are within the limits: they rise, and their number and costs are in range.
+pub record IsWithinLimits (edges : List EdgeLine) : Type 0 where
+  pub rising : IsStrictlyIncreasing (map (λ e. e.line) edges)
+  pub lines : All (λ e. e.line ≤ MOST_BYTES) edges
+  pub count : length edges ≤ MOST_LINES
+  pub costs : All (λ e. (1 ≤ e.cost) × (e.cost ≤ MOST_COST)) edges
+
+-- Bindings are sound where no name is bound twice and each word names a charmap.
+pub record AreSound (bindings : List Binding) : Type 0 where
+  pub distinct : AllPairs (λ a b. a.name ≢ b.name) bindings
+  pub charmaps : All (λ b. names_charmaps b.kind ≡ true) bindings

@@ -1,0 +1,3 @@
+pub mod AliasLemmas
+pub mod Scans
+pub mod Rows

@@ -1,0 +1,5 @@
+pub mod NameForm
+pub mod Builtin
+pub mod Aliases
+pub mod Front
+pub mod Scan

@@ -1,0 +1,243 @@
+-- Words put into pages.
+use Rattle.std.proofs.Common.{◌≡◌, ◌≢◌, ℕ, suc, ◌+◌, ◌*◌, ◌-◌, ◌^◌, ◌<◌, ◌≤◌, Bool, true, false, not, eqb, List, [], ◌∷◌, ◌++◌, length, get_or, take, set, Option, Some, None, refl, sym, ap, ◌∙◌, inl, inr, arith, length-append, length-set}
+use Rattle.std.proofs.Math.Seq.{take-length}
+use Rattle.std.specs.Option.{option_or}
+use Rattle.std.specs.Str.{bytes_eq}
+use Rattle.std.proofs.lemmas.List.{take-set-le, get_or-set_same, get_or-set_other, length-take-le, take_more, get_or-take, length-take}
+use Rattle.std.proofs.lemmas.List.Folds.{list_any_at}
+use Rattle.std.proofs.lemmas.Bool.{cases_Bool, cases_eq, eq-eqb, ne_eqb}
+use Rattle.trie.proofs.Stages.{Refers}
+use Rattle.trie.specs.Fronts.{AreShort, word_at, is_proper_prefix, is_front, level, fronts, pages}
+use Rattle.trie.specs.Stages.{ref_cell, IsStage, put_with, Holds, NoneGoesOn, word_behind, leads_on}
+use Rattle.trie.specs.Trie.{place_of, cell, cell_word}
+use Rattle.trie.specs.Words.{front_page, word_in}
+use Rattle.trie.specs.Leaf.{Leaf}
+use Rattle.trie.proofs.Places.{some_none, bytes_same, bytes_differ, bytes_equal}
+use Rattle.trie.proofs.Walks.{AreBytes}
+use Rattle.trie.proofs.Fronts.{placed, true_false}
+use Rattle.trie.proofs.Distinct.{distinct_at, distinct_fronts, same_front}
+use Rattle.trie.proofs.Stages.{page_of}
+use Rattle.trie.proofs.Marking.{front_goes, take_bytes}
+use Rattle.trie.proofs.Numbers.{fronts_grow}
+
+-- one leaf more at the end
+word_same : (ls : List Leaf) (l : Leaf) (q : List ℕ) → l.path ≡ q →
+    word_at (ls ++ l ∷ []) q ≡ option_or (word_at ls q) (Some l.word)
+word_same [] l q e = rw (ap (λ v. bytes_eq l.path v) (sym e) ∙ bytes_same l.path) refl
+word_same (k ∷ ls) l q e =
+    elim (cases_Bool (bytes_eq k.path q)) [ inl t ↦ rw t refl | inr f ↦ rw f (word_same ls l q e) ]
+
+word_other : (ls : List Leaf) (l : Leaf) (q : List ℕ) → l.path ≢ q → word_at (ls ++ l ∷ []) q ≡ word_at ls q
+word_other [] l q n = rw (bytes_differ l.path q n) refl
+word_other (k ∷ ls) l q n =
+    elim (cases_Bool (bytes_eq k.path q)) [ inl t ↦ rw t refl | inr f ↦ rw f (word_other ls l q n) ]
+
+not_zero : (n : ℕ) → eqb (2 ^ 62 + n) 0 ≡ false
+not_zero n = ne_eqb (2 ^ 62 + n) 0 (λ e. omega (arith, e))
+
+put_full : (ws : List ℕ) (page byte w v : ℕ) → word_in ws page byte ≡ 2 ^ 62 + v →
+    put_with ws (Some page) byte w ≡ ws
+put_full ws page byte w v e = rw (ap (λ x. eqb x 0) e ∙ not_zero v) refl
+
+put_empty : (ws : List ℕ) (page byte w : ℕ) → word_in ws page byte ≡ 0 →
+    put_with ws (Some page) byte w ≡ set ws (256 * page + byte) w
+put_empty ws page byte w e = rw (eq-eqb (word_in ws page byte) 0 e) refl
+
+-- one more word
+put_step : (o place : Option ℕ) (ws : List ℕ) (first page byte w : ℕ) → 256 * page + byte < length ws →
+    place ≡ None → word_in ws page byte ≡ cell_word first o place
+    → word_in (put_with ws (Some page) byte (2 ^ 62 + w)) page byte ≡ cell_word first
+    (option_or o (Some w)) place
+put_step (Some v) place ws first page byte w room none e =
+    ap (λ x. word_in x page byte) (put_full ws page byte (2 ^ 62 + w) v e) ∙ e
+put_step None place ws first page byte w room none e =
+    ap (λ x. word_in x page byte) (put_empty ws page byte (2 ^ 62 + w) (e ∙ ap (cell_word first None) none))
+    ∙ get_or-set_same ws (256 * page + byte) (2 ^ 62 + w) 0 room
+
+put_other : (ws : List ℕ) (page byte w k b : ℕ) → 256 * k + b ≢ 256 * page + byte →
+    word_in (put_with ws (Some page) byte w) k b ≡ word_in ws k b
+put_other ws page byte w k b n = elim (cases_Bool (eqb (word_in ws page byte) 0)) [
+  | inl t ↦ rw t (get_or-set_other ws (256 * page + byte) (256 * k + b) w 0 n)
+  | inr f ↦ rw f refl
+]
+
+pub length-put : (ws : List ℕ) (o : Option ℕ) (byte w : ℕ) → length (put_with ws o byte w) ≡ length ws
+length-put ws None byte w = refl
+length-put ws (Some page) byte w = elim (cases_Bool (eqb (word_in ws page byte) 0)) [
+  | inl t ↦ rw t (length-set ws (256 * page + byte) w)
+  | inr f ↦ rw f refl
+]
+
+-- with the words of some leaves, pages still refer to each other
+word_begins : (leaves : List Leaf) (i : ℕ) → NoneGoesOn leaves → (q : List ℕ) → is_front leaves q ≡ true →
+    word_at (take i leaves) q ≡ None
+word_begins leaves i apart q t =
+    none leaves (take i leaves) q t
+    (λ j d lt. let e = get_or-take i leaves j d (omega (arith, length-take i leaves)) in
+    ap (λ (l : Leaf). is_front leaves l.path) e ∙ apart j d (omega (arith, length-take i leaves)))
+  where
+    none : (leaves ls : List Leaf) (q : List ℕ) → is_front leaves q ≡ true →
+        ((j : ℕ) (d : Leaf) → j < length ls → is_front leaves (get_or ls j d).path ≡ false) →
+        word_at ls q ≡ None
+    none leaves [] q t each = refl
+    none leaves (l ∷ ls) q t each = elim (cases_Bool (bytes_eq l.path q)) [
+      | inl same ↦ absurd (true_false
+          (sym t ∙ ap (is_front leaves) (sym (bytes_equal l.path q same)) ∙ each 0 l (omega arith)))
+      | inr f ↦ rw f (none leaves ls q t (λ j d lt. each (suc j) d (omega arith)))
+    ]
+
+fill_refers : (leaves : List Leaf) (first i : ℕ) (ws : List ℕ) → NoneGoesOn leaves →
+    Holds (take i leaves) leaves first ws → Refers leaves first 3 ws
+fill_refers leaves first i ws apart h = record {
+  few = h.few;
+  words = λ k b lt small t. h.words k b (omega (arith, fronts_grow leaves 3 4 (omega arith))) small
+      ∙ ap (λ o. cell_word first o (place_of (get_or (pages leaves) k [] ++ b ∷ []) (pages leaves)))
+      (word_begins leaves i apart (get_or (pages leaves) k [] ++ b ∷ []) t);
+}
+
+pub some_page : (leaves : List Leaf) → 0 < length (pages leaves)
+some_page leaves = omega (
+  arith,
+  length-append (fronts leaves 3) (level leaves 3),
+  length-append (fronts leaves 2)
+      (level leaves 2),
+  length-append (fronts leaves 1) (level leaves 1),
+)
+
+-- the pages before the first one stay as they are
+pub fill_keeps : (leaves : List Leaf) (first i m : ℕ) (d : Leaf) (ws : List ℕ) → AreShort 4 leaves →
+    NoneGoesOn leaves → i < length leaves → AreBytes (get_or leaves i d).path →
+    length (get_or leaves i d).path ≡ m + 1 → m ≤ 3
+    → Holds (take i leaves) leaves first ws
+    → take (256 * first) (put_with ws (front_page ws first (take m (get_or leaves i d).path))
+    (get_or (get_or leaves i d).path m 0) (2 ^ 62 + (get_or leaves i d).word)) ≡ take (256 * first) ws
+fill_keeps leaves first i m d ws short apart lt ok len few h =
+    let l = get_or leaves i d in
+    let q = take m l.path in
+    let byte = get_or l.path m 0 in
+    let w = 2 ^ 62 + l.word in
+    let goes : is_front leaves q ≡ true =
+    list_any_at (λ x. is_proper_prefix q x.path) leaves i d lt
+    (front_goes m l.path (omega (arith, len))) in
+    let v = page_of leaves first 3 ws (omega arith) short (fill_refers leaves first i ws apart h) q 0
+    (some_page leaves) (take_bytes m l.path ok)
+    (omega (arith, length-take-le m l.path (omega (arith, len)))) goes in
+    let page : front_page ws first q ≡ Some (first + v.0) =
+    ap (λ n. front_page ws n q) (let z : first ≡ first + 0 = omega arith in z) ∙ v.1 in
+    ap (λ o. take (256 * first) (put_with ws o byte w)) page
+    ∙ elim (cases_Bool (eqb (word_in ws (first + v.0) byte) 0)) [
+      | inl t ↦ rw t (take-set-le (256 * first) ws (256 * (first + v.0) + byte) w (omega arith))
+      | inr f ↦ rw f refl
+    ]
+
+-- one leaf more
+pub fill_step : (leaves : List Leaf) (first i m : ℕ) (d : Leaf) (ws : List ℕ) → AreShort 4 leaves →
+    NoneGoesOn leaves → i < length leaves → AreBytes (get_or leaves i d).path →
+    length (get_or leaves i d).path ≡ m + 1 → m ≤ 3
+    → length ws ≡ 256 * (first + length (pages leaves)) → Holds (take i leaves) leaves first ws
+    → Holds (take (i + 1) leaves) leaves first
+    (put_with ws (front_page ws first (take m (get_or leaves i d).path))
+    (get_or (get_or leaves i d).path m 0) (2 ^ 62 + (get_or leaves i d).word))
+fill_step leaves first i m d ws short apart lt ok len few size h =
+    let l = get_or leaves i d in
+    let p = l.path in
+    let q = take m p in
+    let byte = get_or p m 0 in
+    let ps = pages leaves in
+    let goes : is_front leaves q ≡ true =
+    list_any_at (λ x. is_proper_prefix q x.path) leaves i d lt (front_goes m p (omega (arith, len))) in
+    let v = page_of leaves first 3 ws (omega arith) short (fill_refers leaves first i ws apart h) q 0
+    (some_page leaves) (take_bytes m p ok)
+    (omega (arith, length-take-le m p (omega (arith, len)))) goes in
+    let j = v.0 in
+    let page : front_page ws first q ≡ Some (first + j) =
+    ap (λ n. front_page ws n q) (let z : first ≡ first + 0 = omega arith in z) ∙ v.1 in
+    let whole : get_or ps j [] ++ byte ∷ [] ≡ p = ap (λ x. x ++ byte ∷ []) v.2.there
+    ∙ sym (take_more p m 0 (omega (arith, len))) ∙ ap (λ n. take n p) (sym len) ∙ take-length p in
+    let more : take (i + 1) leaves ≡ take i leaves ++ l ∷ [] = take_more leaves i d lt in
+    let out : place_of (get_or ps j [] ++ byte ∷ []) ps ≡ None =
+    (placed leaves short).outside j byte v.2.within (ok m) (ap (is_front leaves) whole ∙ apart i d lt) in
+    let w = 2 ^ 62 + l.word in
+    record {
+      few = h.few;
+      words = λ k b within small.
+          let c = get_or ps k [] ++ b ∷ [] in
+          ap (λ o. word_in (put_with ws o byte w) (first + k) b) page
+          ∙ elim (cases_eq (256 * k + b) (256 * j + byte)) [
+            | inl same ↦
+                let kj : k ≡ j = omega (arith, ok m) in
+                let bb : b ≡ byte = omega (arith, ok m) in
+                let there : c ≡ get_or ps j [] ++ byte ∷ [] = ap (λ n. get_or ps n [] ++ b ∷ []) kj
+                ∙ ap (λ n. get_or ps j [] ++ n ∷ []) bb in
+                ap (λ n. word_in (put_with ws (Some (first + j)) byte w) (first + n) b) kj
+                ∙ ap (λ n. word_in (put_with ws (Some (first + j)) byte w) (first + j) n) bb
+                ∙ put_step (word_at (take i leaves) (get_or ps j [] ++ byte ∷ []))
+                (place_of (get_or ps j [] ++ byte ∷ []) ps) ws first (first + j) byte l.word
+                (omega (arith, ok m, v.2.within)) out (h.words j byte v.2.within (ok m))
+                ∙ ap (λ o. cell_word first o (place_of (get_or ps j [] ++ byte ∷ []) ps))
+                (sym (ap (λ ls. word_at ls (get_or ps j [] ++ byte ∷ [])) more
+                ∙ word_same (take i leaves) l (get_or ps j [] ++ byte ∷ []) (sym whole)))
+                ∙ ap (cell (take (i + 1) leaves) first ps) (sym there)
+            | inr other ↦
+                let differs : p ≢ c = (λ e.
+                let f = same_front (get_or ps j []) (get_or ps k []) byte b (whole ∙ e) in
+                let kj : j ≡ k = distinct_at ps j k (distinct_fronts leaves 4) v.2.within within f.0 in
+                other (omega (arith, f.1))) in
+                put_other ws (first + j) byte w (first + k) b (λ e. other (omega arith))
+                ∙ h.words k b within small
+                ∙ ap (λ o. cell_word first o (place_of c ps))
+                (sym (ap (λ ls. word_at ls c) more ∙ word_other (take i leaves) l c differs))
+          ];
+    }
+
+-- at first there are references alone
+pub fill_first : (leaves : List Leaf) (first : ℕ) (ws : List ℕ) → AreShort 4 leaves →
+    IsStage leaves first 4 ws → Holds [] leaves first ws
+fill_first leaves first ws short st =
+    record {
+      few = omega (arith, st.few, fronts_grow leaves 4 5 (omega arith));
+      words =
+          λ k b lt small. st.words k b lt small;
+    }
+
+some_ref : (first : ℕ) (o : Option ℕ) (t : Bool) → (t ≡ true → o ≡ None → ⊥) → (t ≡ false → o ≡ None) →
+    not (eqb (cell_word first None o) 0) ≡ t
+some_ref first None true has lacks = absurd (has refl refl)
+some_ref first None false has lacks = refl
+some_ref first (Some k) true has lacks = rw (ne_eqb (2 ^ 61 + (first + k)) 0 (λ e. omega (arith, e))) refl
+some_ref first (Some k) false has lacks = absurd (some_none (lacks refl))
+
+-- a reference stands behind a path that is_front another
+pub front_is : (leaves : List Leaf) (first i : ℕ) (d : Leaf) (ws : List ℕ) → AreShort 4 leaves →
+    IsStage leaves first 4 ws → i < length leaves → AreBytes (get_or leaves i d).path →
+    0 < length (get_or leaves i d).path → length (get_or leaves i d).path ≤ 4
+    → leads_on ws first (get_or leaves i d).path ≡ is_front leaves (get_or leaves i d).path
+front_is leaves first i d ws short st lt ok pos few =
+    let p = (get_or leaves i d).path in
+    let m = length p - 1 in
+    let q = take m p in
+    let byte = get_or p m 0 in
+    let ps = pages leaves in
+    let goes : is_front leaves q ≡ true =
+    list_any_at (λ x. is_proper_prefix q x.path) leaves i d lt (front_goes m p (omega arith)) in
+    let refers : Refers leaves first 3 ws =
+    record {
+      few = omega (arith, st.few, fronts_grow leaves 4 5 (omega arith));
+      words =
+          λ k b l w t. st.words k b (omega (arith, fronts_grow leaves 3 4 (omega arith))) w;
+    } in
+    let v = page_of leaves first 3 ws (omega arith) short refers q 0 (some_page leaves) (take_bytes m p ok)
+    (omega (arith, length-take-le m p (omega arith))) goes in
+    let j = v.0 in
+    let page : front_page ws first q ≡ Some (first + j) =
+    ap (λ n. front_page ws n q) (let z : first ≡ first + 0 = omega arith in z) ∙ v.1 in
+    let whole : get_or ps j [] ++ byte ∷ [] ≡ p = ap (λ x. x ++ byte ∷ []) v.2.there
+    ∙ sym (take_more p m 0 (omega arith))
+    ∙ ap (λ n. take n p) (let e : m + 1 ≡ length p = omega arith in e) ∙ take-length p in
+    ap (λ o. not (eqb (word_behind ws o byte) 0)) page
+    ∙ ap (λ w. not (eqb w 0)) (st.words j byte v.2.within (ok m) ∙ ap (ref_cell leaves first) whole)
+    ∙ some_ref first (place_of p ps) (is_front leaves p)
+    (λ t n. (placed leaves short).inside j byte v.2.within (ok m) (ap (is_front leaves) whole ∙ t)
+    (ap (λ x. place_of x ps) whole ∙ n))
+    (λ t. ap (λ x. place_of x ps) (sym whole)
+    ∙ (placed leaves short).outside j byte v.2.within (ok m) (ap (is_front leaves) whole ∙ t))

@@ -1,0 +1,15 @@
+pub mod Places
+pub mod Walks
+pub mod Fronts
+pub mod Distinct
+pub mod Stages
+pub mod Marking
+pub mod Numbers
+pub mod Fills
+pub mod Looks
+pub mod Images
+pub mod Leasts
+pub mod Entries
+pub mod Overlapping
+pub mod Firsts
+pub mod Saying

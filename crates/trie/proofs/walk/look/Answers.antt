@@ -1,0 +1,9 @@
+use Rattle.std.proofs.Common.{◌∙◌, arith}
+use Rattle.trie.proofs.Images.{walk_finds}
+use Rattle.trie.proofs.walk.look.Goals as goal
+
+pub returns-clause-value : goal.returns-clause-value
+returns-clause-value g c leaves at =
+    c.along.ensures.value ∙ walk_finds leaves c.args.first
+    (g.W.Words.words c.args.words.now) c.args.bytes.now at
+    (λ i. omega (arith, c.type_inv.bytes i)) c.requires.some

@@ -1,0 +1,10 @@
+pub mod Leaf
+pub mod Fronts
+pub mod Trie
+pub mod Words
+pub mod Look
+pub mod Stages
+pub mod Overlaps
+pub mod Leasts
+pub mod Faults
+pub mod Rows

@@ -1,0 +1,79 @@
+//! The pages of a trie, level by level, with references alone.
+
+ghost use Rattle.std.specs.Prelude.{◌≡◌, ◌≤◌, ◌<◌, ◌+◌, ◌*◌, ◌^◌, take, length, IfOk, OnOk};
+ghost use Rattle.trie.specs.Fronts.{AreShort, level, fronts};
+ghost use Rattle.trie.specs.Stages.{IsStage};
+
+use crate::entry::Leaves;
+use crate::marks::{mark_count, marks, push_numbered};
+use std::alloc::{AllocError, Global};
+
+/// Appends the pages of a level, and answers how many the next one has.
+fn push_level<L: Leaves>(
+    alloc: Global,
+    words: &mut Vec<u64>,
+    first: u32,
+    base: u32,
+    depth: usize,
+    count: u32,
+    leaves: &L,
+) -> Result<u32, AllocError>
+    requires stage { IsStage (L.leaves leaves.now) first depth words.old.items }
+    requires short { AreShort 4 (L.leaves leaves.now) }
+    requires depth { depth ≤ 3 }
+    requires base { base ≡ first + length (fronts (L.leaves leaves.now) depth) }
+    requires count { count ≡ length (level (L.leaves leaves.now) depth) }
+    requires size { length words.old.items ≡ 256 * base }
+    ensures stage { OnOk result (IsStage (L.leaves leaves.now) first (depth + 1) words.new.items) }
+    ensures count { IfOk result (λ n. n ≡ length (level (L.leaves leaves.now) (depth + 1))) }
+    ensures size { OnOk result (length words.new.items ≡ 256 * (base + count)) }
+    ensures same { OnOk result (take (length words.old.items) words.new.items ≡ words.old.items) }
+    ensures few { IfOk result (λ n. base + count + n < 2 ^ 32) }
+{
+    let marked = marks(
+        alloc,
+        words.as_slice(),
+        first,
+        base,
+        depth,
+        count as usize,
+        leaves,
+    )?;
+    let next = mark_count(marked.as_slice());
+    let Ok(next) = u32::try_from(next) else {
+        return Err(AllocError);
+    };
+    if base as u64 + count as u64 + next as u64 > u32::MAX as u64 {
+        return Err(AllocError);
+    }
+    push_numbered(words, marked.as_slice(), base + count)?;
+    Ok(next)
+}
+
+/// Appends the pages of a trie, with references alone. Pages without a number below 2^32 are want of memory.
+pub fn push_levels<L: Leaves>(
+    alloc: Global,
+    words: &mut Vec<u64>,
+    first: u32,
+    leaves: &L,
+) -> Result<(), AllocError>
+    requires short { AreShort 4 (L.leaves leaves.now) }
+    requires size { length words.old.items ≡ 256 * first }
+    ensures stage { OnOk result (IsStage (L.leaves leaves.now) first 4 words.new.items) }
+    ensures size { OnOk result (length words.new.items ≡
+        256 * (first + length (fronts (L.leaves leaves.now) 4))) }
+    ensures same { OnOk result (take (length words.old.items) words.new.items ≡ words.old.items) }
+    ensures few { OnOk result (first + length (fronts (L.leaves leaves.now) 4) < 2 ^ 32) }
+{
+    if first == u32::MAX {
+        return Err(AllocError);
+    }
+    let mut base = first;
+    let mut count = 1;
+    for depth in 0..4 {
+        let next = push_level(alloc, words, first, base, depth, count, leaves)?;
+        base += count;
+        count = next;
+    }
+    Ok(())
+}

@@ -1,0 +1,92 @@
+//! Tries of a few leaves.
+
+ghost use Rattle.std.specs.Prelude.{◌<◌, length};
+
+use crate::{Entry, Fault, Flat, Leaves, Walk, look, with_trie};
+use std::test::Fail;
+
+/// A path of one byte or two, and its word.
+#[derive(Drop)]
+struct Row {
+    bytes: [u8; 4],
+    long: bool,
+    word: u8,
+}
+
+/// Rows from the first to the last.
+#[derive(Drop)]
+struct Rows {
+    rows: Vec<Row>,
+}
+
+impl Leaves for Rows {
+    ghost use Rattle.std.specs.Prelude.{map, take, if◌then◌else◌};
+    ghost use Rattle.trie.specs.Leaf.{Leaf};
+
+    ghost leaves = { λ r. map (λ row. record { path = take (if row.long then 2 else 1) row.bytes; word = row.word }) r.rows.items };
+
+    fn count(&self) -> usize {
+        self.rows.len()
+    }
+
+    fn leaf(&self, place: usize) -> Entry {
+        let row = &self.rows[place];
+        Entry::new(row.bytes, if row.long { 2 } else { 1 }, row.word as u64)
+    }
+}
+
+/// What a trie has for some bytes.
+fn find(words: &[u64], bytes: &[u8]) -> Walk
+    requires { 0 < length bytes.now }
+{
+    look(&mut Flat { words }, 0, bytes)
+}
+
+fn make_row(first: u8, second: u8, long: bool, word: u8) -> Row {
+    Row {
+        bytes: [first, second, 0, 0],
+        long,
+        word,
+    }
+}
+
+#[test]
+fn bytes_lead_to_words(rt: HostRuntime) -> Result<(), Fail> {
+    let alloc = rt.alloc();
+    let rows = Rows {
+        rows: vec![in alloc;
+            make_row(0x41, 0, false, 7),
+            make_row(0x81, 0xfe, true, 8),
+            make_row(0x41, 0, false, 9),
+        ]?,
+    };
+    let Ok(words) = with_trie(alloc, Vec::new(alloc), 0, &rows) else {
+        panic!(&rt; "a trie was expected");
+    };
+    assert!(&rt; words.len() == 512);
+    assert!(&rt; find(words.as_slice(), &[0x41, 0x42]) == Walk::Word { word: 7, used: 1 });
+    assert!(&rt; find(words.as_slice(), &[0x81, 0xfe]) == Walk::Word { word: 8, used: 2 });
+    assert!(&rt; find(words.as_slice(), &[0x81]) == Walk::Inside);
+    assert!(&rt; find(words.as_slice(), &[0x81, 0xfd]) == Walk::Outside);
+    assert!(&rt; find(words.as_slice(), &[0x42]) == Walk::Outside);
+    Ok(())
+}
+
+#[test]
+fn a_path_may_not_go_on(rt: HostRuntime) -> Result<(), Fail> {
+    let alloc = rt.alloc();
+    let rows = Rows {
+        rows: vec![in alloc;
+            make_row(0x42, 0x41, true, 1),
+            make_row(0x42, 0, false, 2),
+            make_row(0x41, 0x43, true, 3),
+            make_row(0x41, 0x42, true, 4),
+            make_row(0x41, 0, false, 5),
+        ]?,
+    };
+    match with_trie(alloc, Vec::new(alloc), 0, &rows) {
+        Err(Fault::Overlap { first, second }) => assert!(&rt; first == 4 && second == 3),
+        _ => panic!(&rt; "an overlap was expected"),
+    }
+    Ok(())
+}
