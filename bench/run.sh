@@ -6,7 +6,8 @@
 #
 # PROGRAM is crates/iconv_batch/out/iconv_batch where none is given. RUNS=N measures each row N times
 # (5 where it isn't set); a figure is the median. A peer that is missing is skipped with a word, and
-# so is a pair that the program refuses. The status is 1 exactly where some bytes differ.
+# so is a pair that the program refuses (status 2). The status is 1 exactly where some bytes differ or
+# the program fails otherwise.
 set -u
 here=$(cd "$(dirname "$0")/.." && pwd) || exit 2
 program=${1:-$here/crates/iconv_batch/out/iconv_batch}
@@ -135,8 +136,11 @@ def row(source, target, kind, mib):
         if os.path.exists(f"{folder}/out.{w}"):
             os.remove(f"{folder}/out.{w}")
         status = run(words[w])[0]
+        if w == "program" and status not in (0, 2):
+            print(f"{label}  FAILED: the program ends with status {status}")
+            return False
         if status != 0:
-            print(f"{label}  skipped: {w} ends with status {status}")
+            print(f"{label}  skipped: {w} refuses it")
             return True
     same = all(filecmp.cmp(f"{folder}/out.program", f"{folder}/out.{w}", shallow=False)
                for w in who[1:])

@@ -1,6 +1,6 @@
 //! The files of the machine.
 
-ghost use Rattle.std.specs.Prelude.{◌≡◌};
+ghost use Rattle.std.specs.Prelude.{◌≡◌, ◌<◌, ◌≤◌, length, take, vec_len, IfOk, IfSome, MatchOption};
 
 use crate::file_sets::{Files, Put, Taken};
 use std::alloc::Global;
@@ -41,20 +41,56 @@ impl<'a, R: std::rt::Files> DiskFiles<'a, R> {
     }
 }
 
-/// Reads a file, and of a file that has more than `limit` bytes one byte more.
+/// Reads at most `most` bytes; room is made for `room` bytes at once.
+fn read_at_most<T: Read + Drop>(
+    alloc: Global,
+    reader: T,
+    room: usize,
+    most: u64,
+) -> io::Result<Vec<u8>>
+    ensures { IfOk result (λ got. IfSome (T.remaining reader)
+        (λ bytes. got.items ≡ take most bytes)) }
+{
+    let mut got = Vec::new(alloc);
+    got.reserve_exact(room)?;
+    reader.take(most).read_to_end(&mut got)?;
+    Ok(got)
+}
+
+/// Reads a whole reader, which is thought to have `size` bytes. Where it has more than `limit`, one
+/// byte past the limit is read, and none is answered.
+fn read_whole<T: Read + Drop>(
+    alloc: Global,
+    reader: T,
+    size: u64,
+    limit: u32,
+) -> io::Result<Option<Vec<u8>>>
+    ensures whole { IfOk result (λ whole. IfSome (T.remaining reader)
+        (λ bytes. MatchOption whole (limit < length bytes) (λ got. got.items ≡ bytes))) }
+    ensures fits { IfOk result (λ whole. IfSome whole (λ got. vec_len got ≤ limit)) }
+{
+    let most = limit as u64 + 1;
+    // with room for one byte past the size, the read that finds the end needs no growth
+    let room = size.saturating_add(1).min(most);
+    let got = read_at_most(alloc, reader, room as usize, most)?;
+    if got.len() > limit as usize {
+        return Ok(None);
+    }
+    Ok(Some(got))
+}
+
+/// Reads a file, of at most `limit` bytes.
 fn read_file<R: std::rt::Files>(
     rt: &R,
     alloc: Global,
     name: &str,
     limit: u32,
-) -> io::Result<Vec<u8>> {
+) -> io::Result<Option<Vec<u8>>>
+    ensures { IfOk result (λ whole. IfSome whole (λ got. vec_len got ≤ limit)) }
+{
     let file = fs::open(rt, name)?;
-    let most = limit as u64 + 1;
     let size = file.metadata()?.len();
-    let mut bytes = Vec::new(alloc);
-    bytes.reserve_exact((size.min(limit as u64) + 1) as usize)?;
-    file.take(most).read_to_end(&mut bytes)?;
-    Ok(bytes)
+    read_whole(alloc, file, size, limit)
 }
 
 /// Writes a file, which is made or emptied first.
@@ -73,8 +109,8 @@ impl<'a, R: std::rt::Files> Files for DiskFiles<'a, R> {
 
     fn take(&mut self, alloc: Global, name: &str, limit: u32) -> Taken {
         match read_file(self.rt, alloc, name, limit) {
-            Ok(bytes) if bytes.len() > limit as usize => Taken::TooLarge,
-            Ok(bytes) => Taken::Bytes(bytes),
+            Ok(Some(bytes)) => Taken::Bytes(bytes),
+            Ok(None) => Taken::TooLarge,
             Err(e) if e.kind() == ErrorKind::NotFound => Taken::Absent,
             Err(e) if e.kind() == ErrorKind::OutOfMemory => Taken::Memory,
             Err(_) => {

@@ -1,3 +1,4 @@
 pub mod Steps
 pub mod SetLaws
 pub mod JointSteps
+pub mod UnitsAreShort

@@ -1,6 +1,7 @@
 -- What a gconv-modules text stands for.
 use Rattle.std.specs.Prelude.{ℕ, Bool, ◌&&◌, not, ◌==◌, if◌then◌else◌, nat_le, nat_lt, List, ◌∷◌, length, Option, Some, None, is_some, Result, Ok, Err, codes, slice_get, min, count_by}
 use Rattle.std.specs.List.{before_first, filter_map}
+use Rattle.std.specs.Option.{option_map}
 use Rattle.std.specs.Str.{bytes_eq}
 use Rattle.text_lines.specs.Lines.{numbered_lines}
 use Rattle.text_lines.specs.Words.{words}
@@ -46,21 +47,33 @@ alias_line line (key ∷ alias ∷ original ∷ _) =
     if bytes_eq key (codes "alias") then alias_between line (both (normal_of alias) (normal_of original)) else None
 alias_line line _ = None
 
--- The module lines of a text, in order.
+-- The module lines among numbered lines, in order.
+abbrev pub edges_among : List (ℕ × List ℕ) → List EdgeLine
+edges_among ps = filter_map (λ p. edge_line p.0 (conf_words p.1)) ps
+
+-- The alias lines among numbered lines, in order.
+abbrev pub aliases_among : List (ℕ × List ℕ) → List AliasLine
+aliases_among ps = filter_map (λ p. alias_line p.0 (conf_words p.1)) ps
+
+-- Words are passed over where there are some, and they are neither a module line nor an alias line.
+abbrev pub is_passed : ℕ → List (List ℕ) → Bool
+is_passed line ws = nat_lt 0 (length ws) && not (is_some (edge_line line ws)) && not (is_some (alias_line line ws))
+
+-- How many of the numbered lines are passed over.
+abbrev pub passed_among : List (ℕ × List ℕ) → ℕ
+passed_among ps = count_by (λ p. is_passed p.0 (conf_words p.1)) ps
+
+-- The module lines of a text.
 abbrev pub edge_lines : List ℕ → List EdgeLine
-edge_lines text = filter_map (λ p. edge_line p.0 (conf_words p.1)) (numbered_lines text)
+edge_lines text = edges_among (numbered_lines text)
 
--- The alias lines of a text, in order.
+-- The alias lines of a text.
 abbrev pub alias_lines : List ℕ → List AliasLine
-alias_lines text = filter_map (λ p. alias_line p.0 (conf_words p.1)) (numbered_lines text)
-
--- A line is passed over where it has words and is neither a module line nor an alias line.
-abbrev pub is_passed : List (List ℕ) → Bool
-is_passed ws = nat_lt 0 (length ws) && not (is_some (edge_line 0 ws)) && not (is_some (alias_line 0 ws))
+alias_lines text = aliases_among (numbered_lines text)
 
 -- How many lines of a text are passed over.
 abbrev pub passed_lines : List ℕ → ℕ
-passed_lines text = count_by (λ p. is_passed (conf_words p.1)) (numbered_lines text)
+passed_lines text = passed_among (numbered_lines text)
 
 -- The smaller of two numbers, where they are there.
 abbrev pub least_of : Option ℕ → Option ℕ → Option ℕ
@@ -68,23 +81,19 @@ least_of None b = b
 least_of (Some a) None = Some a
 least_of (Some a) (Some b) = Some (min a b)
 
-abbrev pub line_of_edge : Option EdgeLine → Option ℕ
-line_of_edge None = None
-line_of_edge (Some e) = Some e.line
-
-abbrev pub line_of_alias : Option AliasLine → Option ℕ
-line_of_alias None = None
-line_of_alias (Some a) = Some a.line
-
 -- The line of the first module line or alias line that is one more than the limit.
-abbrev pub line_too_many : List ℕ → Option ℕ
-line_too_many text =
-    least_of (line_of_edge (slice_get (edge_lines text) MOST_LINES)) (line_of_alias (slice_get (alias_lines text) MOST_LINES))
+abbrev pub line_too_many : Conf → Option ℕ
+line_too_many conf =
+    least_of (option_map (λ e. e.line) (slice_get conf.edges MOST_LINES)) (option_map (λ a. a.line) (slice_get conf.aliases MOST_LINES))
 
-abbrev pub conf_unless : List ℕ → Option ℕ → Result Conf ConfFault
-conf_unless text (Some line) = Err (TooManyLines line)
-conf_unless text None = Ok (record { edges = edge_lines text; aliases = alias_lines text; passed = passed_lines text })
+abbrev pub conf_unless : Option ℕ → Conf → Result Conf ConfFault
+conf_unless None conf = Ok conf
+conf_unless (Some line) conf = Err (TooManyLines line)
+
+-- A configuration, unless a line of it is one too many.
+abbrev pub checked_conf : Conf → Result Conf ConfFault
+checked_conf conf = conf_unless (line_too_many conf) conf
 
 -- The configuration that a text stands for, unless a line is one too many.
 abbrev pub conf_of : List ℕ → Result Conf ConfFault
-conf_of text = conf_unless text (line_too_many text)
+conf_of text = checked_conf (record { edges = edge_lines text; aliases = alias_lines text; passed = passed_lines text })

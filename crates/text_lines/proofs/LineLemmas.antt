@@ -1,6 +1,6 @@
 -- The first line of a text.
-use Rattle.std.proofs.Common.{◌≡◌, ℕ, ◌+◌, ◌<◌, Bool, true, false, eqb, List, [], ◌∷◌, length, take, drop, refl, ap, ◌∙◌, get_or, arith}
-use Rattle.std.specs.List.{slice_split, position_or_len}
+use Rattle.std.proofs.Common.{◌≡◌, ℕ, suc, ◌+◌, ◌<◌, ◌≤◌, cond, Bool, true, false, eqb, List, [], ◌∷◌, length, take, drop, refl, ap, ◌∙◌, get_or, arith}
+use Rattle.std.specs.List.{slice_split, onto_first, position_or_len}
 use Rattle.std.proofs.lemmas.List.{get_or_default}
 use Rattle.std.proofs.lemmas.List.Splits.{slice_split_none, slice_split_first, length-slice_split}
 use Rattle.std.proofs.lemmas.List.Sums.{position_or_len_is}
@@ -38,3 +38,19 @@ lines-first text at lt nowhere here =
     slice_split_first is_newline text 0 (omega (arith, is)) ∙ ap (λ n. take n text ∷ slice_split is_newline (drop (n + 1) text)) is in
     ap without_empty_end cut
     ∙ before_more (take at text) (slice_split is_newline (drop (at + 1) text)) (omega (arith, length-slice_split is_newline (drop (at + 1) text)))
+
+onto_more : (x : ℕ) (parts : List (List ℕ)) (n : ℕ) → length (without_empty_end parts) ≤ n → length (without_empty_end (onto_first x parts)) ≤ suc n
+onto_more x [] n le = omega arith
+onto_more x (part ∷ []) n le = let one : length (without_empty_end (onto_first x (part ∷ []))) ≡ 1 = rw (ne_eqb (length (x ∷ part)) 0 (λ none. omega arith)) refl in omega arith
+onto_more x (part ∷ next ∷ more) n le = omega (arith, le)
+
+split_more : (text : List ℕ) → length (without_empty_end (slice_split is_newline text)) ≤ length text
+split_more [] = omega arith
+split_more (x ∷ xs) = elim (is_newline x) as (λ b. length (without_empty_end (cond b ([] ∷ slice_split is_newline xs) (onto_first x (slice_split is_newline xs)))) ≤ suc (length xs)) [
+  | true ↦ rw (before_more [] (slice_split is_newline xs) (omega (arith, length-slice_split is_newline xs))) (omega (arith, split_more xs))
+  | false ↦ onto_more x (slice_split is_newline xs) (length xs) (split_more xs)
+]
+
+-- A text has at most as many lines as bytes.
+pub length-lines : (text : List ℕ) → length (lines text) ≤ length text
+length-lines text = split_more text

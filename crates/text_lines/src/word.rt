@@ -55,9 +55,7 @@ pub fn next_word(line: &[u8]) -> Option<(&[u8], &[u8])>
 /// The first words of `line`, at most `N`.
 pub fn first_words<const N: usize>(line: &[u8]) -> ArrayVec<&[u8], N>
     ensures value { map (λ word. word.now) result.items ≡ take N (words line.now) }
-    ensures sized {
-        All (λ word. (0 < length word.now) × (length word.now ≤ length line.now)) result.items
-    }
+    ensures sized { All (λ word. (0 < length word.now) × (length word.now ≤ length line.now)) result.items }
 {
     let mut found = ArrayVec::new();
     let mut rest = line;

@@ -1,0 +1,6 @@
+pub mod Relaxing
+pub mod Searching
+pub mod Tracing
+pub mod Turning
+pub mod Frontiers
+pub mod Offers

@@ -1,0 +1,5 @@
+pub mod Chains
+pub mod Answer
+pub mod Steps
+pub mod Frontier
+pub mod Search

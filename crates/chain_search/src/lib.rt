@@ -1,0 +1,15 @@
+//! The least chain of conversions from one node of the graph to another.
+#![tactic(auto)]
+
+mod chain;
+mod frontier;
+mod relax;
+mod search;
+mod step;
+mod table;
+#[cfg(test)]
+mod tests;
+mod trace;
+
+pub use chain::{Chain, Ordinals};
+pub use search::least;

@@ -1,0 +1,7 @@
+pub mod Faults
+pub mod Rows
+pub mod Header
+pub mod Mapping
+pub mod Charmap
+pub mod Scan
+pub mod Examples

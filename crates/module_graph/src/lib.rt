@@ -1,0 +1,17 @@
+//! The graph of conversions that a configuration and its bindings stand for.
+//!
+//! Its nodes are names of sets, its edges conversions between them. Six sets are built in, each with
+//! an edge to `INTERNAL//` and one from it; the module lines of the configuration give the others.
+#![tactic(auto)]
+
+mod bound;
+mod build;
+mod draft;
+mod edge;
+mod graph;
+mod rows;
+#[cfg(test)]
+mod tests;
+
+pub use edge::Edge;
+pub use graph::Graph;

@@ -1,0 +1,4 @@
+pub mod Scratch
+pub mod Feeds
+pub mod Ends
+pub mod Bridge

@@ -1,0 +1,5 @@
+pub mod Held
+pub mod Stands
+pub mod Ends
+pub mod Sound
+pub mod EmptyTable
