@@ -1,6 +1,6 @@
 -- What a bindings text stands for.
 use Rattle.std.specs.Prelude.{ℕ, Bool, false, ◌&&◌, not, ◌==◌, if◌then◌else◌, nat_le, List, [], ◌∷◌, length, take, map, filter, Option, Some, None, Result, Ok, Err, codes, slice_get, slice_index, slice_index_or}
-use Rattle.std.specs.List.{list_all, list_any, filter_map, enumerate_from}
+use Rattle.std.specs.List.{list_any, filter_map, enumerate_from}
 use Rattle.std.specs.Str.{bytes_eq}
 use Rattle.text_lines.specs.Lines.{numbered_lines}
 use Rattle.text_lines.specs.Words.{words}

@@ -1,5 +1,5 @@
 -- What holds of every configuration and of all bindings that were read.
-use Rattle.std.specs.Prelude.{◌≡◌, ◌≢◌, ◌≤◌, Bool, true, ◌&&◌, List, length, map, All, AllPairs}
+use Rattle.std.specs.Prelude.{◌≡◌, ◌≢◌, ◌≤◌, true, List, length, map, All, AllPairs}
 use Rattle.std.specs.List.Sorted.{IsStrictlyIncreasing}
 use Rattle.modules_conf.specs.Charmaps.{names_charmaps}
 use Rattle.modules_conf.specs.declared.limits.TheConstants.{MOST_BYTES, MOST_COST, MOST_LINES}
