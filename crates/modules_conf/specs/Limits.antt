@@ -6,7 +6,7 @@ use Rattle.modules_conf.specs.declared.limits.TheConstants.{MOST_BYTES, MOST_COS
 use Rattle.modules_conf.specs.declared.lines.EdgeLine.{EdgeLine}
 use Rattle.modules_conf.specs.declared.bindings.Binding.{Binding}
 
--- The module lines of a configuration are within the limits: they rise, and their number and costs are in range.
+-- Module lines are within the limits where their lines rise and their number and costs are in range.
 pub record IsWithinLimits (edges : List EdgeLine) : Type 0 where
   pub rising : IsStrictlyIncreasing (map (λ e. e.line) edges)
   pub lines : All (λ e. e.line ≤ MOST_BYTES) edges
