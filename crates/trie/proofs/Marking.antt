@@ -10,7 +10,7 @@ use Rattle.trie.specs.Stages.{IsStage, marked_with}
 use Rattle.trie.specs.Words.{front_page}
 use Rattle.trie.specs.Leaf.{Leaf}
 use Rattle.trie.proofs.Walks.{AreBytes}
-use Rattle.trie.proofs.Fronts.{has_at, level_length, front_level, false_true, child_length, goes_longer}
+use Rattle.trie.proofs.Fronts.{Has, has_at, level_length, front_level, false_true, child_length, goes_longer, begins_short}
 use Rattle.trie.proofs.Distinct.{distinct_at, distinct_children, distinct_level, child_at, length-all_children}
 use Rattle.trie.proofs.Stages.{page_of, short_front, front_same}
 
@@ -216,3 +216,25 @@ pub unmarked_children : (ps : List (List ℕ)) (n : ℕ) → n ≡ 256 * length 
     replicate n false ≡ map (is_front []) (flat_map children ps)
 unmarked_children ps n e = ap (λ m. replicate m false) (e ∙ sym (length-all_children ps))
     ∙ unmarked (flat_map children ps)
+
+-- where no path is longer, nothing is marked
+none_marked : (leaves : List Leaf) (n most : ℕ) (cs : List (List ℕ)) → AreShort most leaves → most ≤ n →
+    ((c : List ℕ) → Has c cs → length c ≡ n) → replicate (length cs) false ≡ map (is_front leaves) cs
+none_marked leaves n most [] short le each = refl
+none_marked leaves n most (c ∷ cs) short le each =
+    let stays : is_front leaves c ≡ false = elim (cases_Bool (is_front leaves c)) [
+      | inl t ↦ absurd (let below = begins_short most leaves c short t in
+          omega (arith, below, each c (inl refl)))
+      | inr f ↦ f
+    ] in
+    ap (λ b. b ∷ replicate (length cs) false) (sym stays)
+    ∙ ap (λ bs. is_front leaves c ∷ bs) (none_marked leaves n most cs short le (λ d h. each d (inr h)))
+
+-- so no child of a level is
+pub none_longer_marked : (leaves : List Leaf) (n most many : ℕ) → AreShort most leaves → most ≤ n + 1 →
+    many ≡ 256 * length (level leaves n) →
+    replicate many false ≡ map (is_front leaves) (flat_map children (level leaves n))
+none_longer_marked leaves n most many short le e =
+    ap (λ m. replicate m false) (e ∙ sym (length-all_children (level leaves n)))
+    ∙ none_marked leaves (n + 1) most (flat_map children (level leaves n)) short le
+    (λ c h. child_length n (level leaves n) (level_length leaves n) c h)
