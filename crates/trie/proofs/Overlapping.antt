@@ -14,6 +14,7 @@ pub path_is : (leaves : List Leaf) (i : ℕ) (d : Leaf) (q : List ℕ) → i < l
     get_or (paths leaves) i q ≡ (get_or leaves i d).path
 path_is leaves i d q lt = get_or-map (λ (l : Leaf). l.path) leaves i d q lt
 
+-- a path goes on from a string exactly where it is a front
 pub one_is : (leaves : List Leaf) (front : List ℕ) →
     is_prefix_of_one (paths leaves) front ≡ is_front leaves front
 one_is [] front = refl
