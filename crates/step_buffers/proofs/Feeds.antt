@@ -1,5 +1,5 @@
 -- How a session stands for its stream as pieces come.
-use Rattle.std.proofs.Common.{◌≡◌, ◌≢◌, ℕ, ◌+◌, ◌≤◌, List, [], ◌∷◌, ◌++◌, length, take, drop, Bool, true, false, refl, ap, sym, ◌∙◌, subst, arith, append_assoc, length-append}
+use Rattle.std.proofs.Common.{◌≡◌, ◌≢◌, ℕ, ◌+◌, List, [], ◌∷◌, ◌++◌, length, take, drop, Bool, true, false, refl, ap, sym, ◌∙◌, subst, arith, append_assoc, length-append}
 use Rattle.std.proofs.lemmas.List.{take-append-drop, length-take-le}
 use Rattle.std.proofs.Math.Seq.{drop-append-add}
 use Rattle.code_pairs.specs.Tables.{Tables}
@@ -57,8 +57,15 @@ kept_verdict ts R s rest [] Incomplete end keeps =
     let none : [] ≡ rest = keeps (λ e. cc) in absurd (end.0 (sym none))
 kept_verdict ts R s rest (b ∷ tail) Incomplete end keeps = refl
 
+-- a stream that can't go on is illegal
+pub stops_illegal : (v : Verdict) → stops v ≡ true → v ≡ Illegal
+stops_illegal Illegal e = refl
+stops_illegal Done e = cc
+stops_illegal Full e = cc
+stops_illegal Incomplete e = cc
+
 -- a stream that hasn't stopped isn't illegal
-going_legal : (v : Verdict) → stops v ≡ false → v ≢ Illegal
+pub going_legal : (v : Verdict) → stops v ≡ false → v ≢ Illegal
 going_legal Illegal e = λ f. cc
 going_legal Done e = λ f. cc
 going_legal Full e = λ f. cc

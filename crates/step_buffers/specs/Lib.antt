@@ -2,3 +2,4 @@ pub mod Held
 pub mod Stands
 pub mod Ends
 pub mod Sound
+pub mod EmptyTable

@@ -1,7 +1,7 @@
 //! Streams in pieces as their callers convert them.
 
-ghost use Rattle.std.specs.Prelude.{◌≡◌, ◌≤◌, [], ◌∷◌};
-ghost use Rattle.step_buffers.proofs.EmptyTable.{empty_tables};
+ghost use Rattle.std.specs.Prelude.{◌≡◌, ◌≤◌, [], ◌∷◌, length};
+ghost use Rattle.step_buffers.specs.EmptyTable.{empty_tables};
 
 use crate::{Fed, Finish, Session, Whole};
 use chain_steps::{Bound, Joints, Recipe, Runner, Set};
@@ -44,6 +44,83 @@ fn runner(alloc: Global, reader: Uni, writer: Uni) -> Runner {
     })
 }
 
+/// The conversion of a stream that comes in two pieces.
+fn in_two(
+    alloc: Global,
+    reader: Uni,
+    writer: Uni,
+    first: &[u8],
+    second: &[u8],
+) -> Result<Whole, AllocError>
+    requires first { length first.now ≤ 64 }
+    requires second { length second.now ≤ 64 }
+{
+    let mut runner = runner(alloc, reader, writer);
+    let mut tables = NoCodes;
+    let mut bound = Bound {
+        runner: &mut runner,
+        tables: &mut tables,
+    };
+    let mut session = Session::new(alloc)?;
+    let _ = session.feed(&mut bound, first)?;
+    let _ = session.feed(&mut bound, second)?;
+    Ok(session.finish(&mut bound))
+}
+
+/// The conversion of a stream that comes byte by byte.
+fn in_bytes(alloc: Global, reader: Uni, writer: Uni, input: &[u8]) -> Result<Whole, AllocError>
+    requires { length input.now ≤ 64 }
+{
+    let mut runner = runner(alloc, reader, writer);
+    let mut tables = NoCodes;
+    let mut bound = Bound {
+        runner: &mut runner,
+        tables: &mut tables,
+    };
+    let mut session = Session::with_room(alloc, input.len() as u64)?;
+    for byte in input {
+        let _ = session.feed(&mut bound, &[*byte])?;
+    }
+    Ok(session.finish(&mut bound))
+}
+
+fn is_same(one: &Whole, other: &Whole) -> bool {
+    one.finish == other.finish && one.bytes == other.bytes
+}
+
+/// Points of one to four bytes; the same, cut off; an illegal byte behind a point; a mark; a surrogate
+/// cut off.
+const ROWS: [(Uni, Uni, &[u8]); 6] = [
+    (
+        Uni::Utf8,
+        Uni::Utf16,
+        &[0x41, 0xC3, 0xA9, 0xE3, 0x81, 0x82, 0xF0, 0x9F, 0x98, 0x80],
+    ),
+    (Uni::Utf8, Uni::Ucs4, &[0xE3, 0x81, 0x82, 0xF0, 0x9F, 0x98]),
+    (Uni::Utf8, Uni::Utf16Le, &[0x41, 0xC3, 0xC3, 0xA9, 0x42]),
+    (
+        Uni::Utf16,
+        Uni::Utf8,
+        &[0xFE, 0xFF, 0x30, 0x42, 0xD8, 0x3D, 0xDE, 0x00],
+    ),
+    (Uni::Utf16Be, Uni::Utf8, &[0x00, 0x41, 0xD8, 0x3D, 0xDE]),
+    (Uni::Utf8, Uni::Ascii, &[0x41, 0x42, 0xC3, 0xA9, 0x43]),
+];
+
+#[test]
+fn cuts_change_nothing(rt: HostRuntime) -> Result<(), AllocError> {
+    for (reader, writer, input) in ROWS {
+        assert!(&rt; input.len() <= 64);
+        let whole = in_two(rt.alloc(), reader, writer, input, &[])?;
+        assert!(&rt; is_same(&in_bytes(rt.alloc(), reader, writer, input)?, &whole));
+        for cut in 0..input.len() {
+            let cut = in_two(rt.alloc(), reader, writer, &input[..cut], &input[cut..])?;
+            assert!(&rt; is_same(&cut, &whole));
+        }
+    }
+    Ok(())
+}
+
 #[test]
 fn a_point_comes_in_four_pieces(rt: HostRuntime) -> Result<(), AllocError> {
     let mut runner = runner(rt.alloc(), Uni::Utf8, Uni::Utf16Be);
@@ -53,10 +130,10 @@ fn a_point_comes_in_four_pieces(rt: HostRuntime) -> Result<(), AllocError> {
         tables: &mut tables,
     };
     let mut session = Session::new(rt.alloc())?;
-    for byte in [0xF0, 0x9F, 0x98] {
-        assert!(&rt; session.feed(&mut bound, &[byte])? == Fed::Going);
-        assert!(&rt; session.output().is_empty());
-    }
+    assert!(&rt; session.feed(&mut bound, &[0xF0])? == Fed::Going);
+    assert!(&rt; session.feed(&mut bound, &[0x9F])? == Fed::Going);
+    assert!(&rt; session.feed(&mut bound, &[0x98])? == Fed::Going);
+    assert!(&rt; session.output().is_empty());
     assert!(&rt; session.feed(&mut bound, &[0x80])? == Fed::Going);
     assert!(&rt; session.output() == [0xD8, 0x3D, 0xDE, 0x00].as_slice());
     let whole = session.finish(&mut bound);

@@ -6,3 +6,4 @@ pub mod Utf16Apart
 pub mod Ucs4Fronts
 pub mod Apart
 pub mod States
+pub mod ReadBack

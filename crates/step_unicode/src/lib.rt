@@ -6,13 +6,15 @@ pub mod ascii;
 mod laws;
 mod set;
 mod small;
+#[cfg(test)]
+mod tests;
 pub mod ucs4;
 mod units;
 pub mod utf16;
 pub mod utf8;
 mod wrote;
 
-pub use laws::{spellings_join, units_are_apart};
+pub use laws::{spellings_join, spellings_read_back, units_are_apart};
 pub use set::{State, Uni, Unit};
 pub use small::Small;
 pub use units::{read_unit, write_at, write_unit};
