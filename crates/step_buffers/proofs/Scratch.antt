@@ -1,6 +1,6 @@
 -- A whole input through a small scratch, one call after another.
 use Rattle.std.proofs.Common.{◌≡◌, ◌≢◌, ℕ, ◌+◌, ◌-◌, ◌*◌, ◌<◌, ◌≤◌, zero, suc, List, [], ◌++◌, length, take, drop, Option, refl, ap, sym, ◌∙◌, subst, arith, append_assoc, length-append, length-drop}
-use Rattle.std.proofs.lemmas.List.{take_rest, drop-drop, length-take-le}
+use Rattle.std.proofs.lemmas.List.{append-nil, take_rest, drop-drop, length-take-le}
 use Rattle.std.proofs.Math.Seq.{take-add}
 use Rattle.code_pairs.specs.Tables.{Tables}
 use Rattle.unit_relations.specs.Units.{Units, bytes_of, points}
@@ -10,7 +10,7 @@ use Rattle.unit_relations.specs.Meaning.{Ends}
 use Rattle.unit_relations.specs.declared.verdict.Verdict.{Verdict}
 use Rattle.unit_relations.specs.declared.verdict.Verdict.TheVariants.{Done, Full, Incomplete, Illegal}
 use Rattle.unit_relations.proofs.Room.{room_bound, short_points}
-use Rattle.unit_relations.proofs.Runs.{Carried-append}
+use Rattle.unit_relations.proofs.Runs.{Carried-append, Carried-nil}
 use Rattle.step_unicode.specs.declared.set.State.{State}
 use Rattle.chain_steps.specs.declared.recipe.Recipe.{Recipe}
 use Rattle.chain_steps.specs.Machine.{Machine}
@@ -129,3 +129,12 @@ pub left_short : (ts : Tables) → AreWellFormed ts → (R : Recipe) (s t : Stat
 left_short ts well R s t x w v at s2 t2 not means =
     let rest : length (drop at x) ≤ 7 = rest_short ts well R s2 (drop at x) v not means.ends in
     omega (arith, length-drop at x)
+
+-- nothing was made of the first no bytes
+pub made_nothing : (ts : Tables) (m : Machine) (x old : List ℕ) (before : ℕ) → IsMade ts m m x 0 old old before before
+made_nothing ts m x old before = record {
+  written = [];
+  items = sym (append-nil old);
+  len = omega arith;
+  carried = Carried-nil (units_of ts m.recipe) (carries_of ts m.recipe) (spelling_of ts m.recipe) (spellings_join ts m.recipe.writer) m.reading m.writing;
+}
