@@ -47,6 +47,7 @@ pub trait Converter {
     fn reset(&mut self, output: &mut [u8]) -> Reset
         requires ready { ready self.old }
         ensures reset { IsReset (machine self.old) (machine self.new) output.old output.new result }
+        ensures recipe { (machine self.new).recipe ≡ (machine self.old).recipe }
         ensures same { tables self.new ≡ tables self.old }
         ensures ready { ready self.new }
         ensures kept { kept self.old self.new };

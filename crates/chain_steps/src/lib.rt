@@ -12,6 +12,8 @@ mod loops;
 mod read;
 mod recipe;
 mod runner;
+#[cfg(test)]
+mod tests;
 mod write;
 
 pub use converter::{Bound, Converter};

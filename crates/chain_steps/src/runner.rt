@@ -212,6 +212,7 @@ impl Runner {
     /// Writes the return sequence of the writer's set, and puts both states to `Plain`.
     pub fn reset<T: Lookup>(&mut self, _tables: &mut T, output: &mut [u8]) -> Reset
         ensures reset { IsReset self.old self.new output.old output.new result }
+        ensures recipe { self.new.recipe ≡ self.old.recipe }
         ensures same { _tables.new ≡ _tables.old }
     {
         let answer = write_return(self.recipe.writer, self.writing, output);

@@ -17,13 +17,14 @@ use Rattle.charmap_reader.specs.Rows.{Row, row_of, rows_of}
 use Rattle.charmap_reader.specs.Header.{Signs, usual_signs, signs_after, signs_behind, header_fault, is_start}
 use Rattle.charmap_reader.specs.Mapping.{row_pairs, ok_pairs, pairs_of, fault_behind, mapping_fault, is_end}
 use Rattle.charmap_reader.specs.Charmap.{fault_at, first_fault, until, behind, or_else, when_there, ends_mapping, ends_header, mapping_of, charmap_of_rows, charmap_of}
-use Rattle.charmap_reader.specs.Scan.{onto, unless_fault, scan, scan_header}
+use Rattle.charmap_reader.specs.Scan.{onto, unless_fault, scan, scan_header, scan_text}
 
 pub onto_nil : (r : Result (List Pair) MapFault) → onto [] r ≡ r
 onto_nil (Ok ps) = refl
 onto_nil (Err f) = refl
 
-pub onto_onto : (ps qs : List Pair) (r : Result (List Pair) MapFault) → onto (ps ++ qs) r ≡ onto ps (onto qs r)
+pub onto_onto : (ps qs : List Pair) (r : Result (List Pair) MapFault) →
+    onto (ps ++ qs) r ≡ onto ps (onto qs r)
 onto_onto ps qs (Ok rs) = ap Ok (append_assoc ps qs rs)
 onto_onto ps qs (Err f) = refl
 
@@ -31,122 +32,178 @@ onto_onto ps qs (Err f) = refl
 abbrev mapping_behind : Signs → ℕ → ℕ → List Row → List Row → Result (List Pair) MapFault
 mapping_behind s count n before rows =
     or_else (first_fault n (mapping_fault s) before (until (ends_mapping s) before rows))
-    (when_there NoEnd count (behind (ends_mapping s) before rows) (λ _. Ok (pairs_of s (before ++ until (ends_mapping s) before rows))))
+    (when_there NoEnd count (behind (ends_mapping s) before rows)
+    (λ _. Ok (pairs_of s (before ++ until (ends_mapping s) before rows))))
 
-pairs_of-push : (s : Signs) (before : List Row) (r : Row) → pairs_of s (before ++ r ∷ []) ≡ pairs_of s before ++ ok_pairs (row_pairs s r)
+pairs_of-push : (s : Signs) (before : List Row) (r : Row) →
+    pairs_of s (before ++ r ∷ []) ≡ pairs_of s before ++ ok_pairs (row_pairs s r)
 pairs_of-push s before r =
-    flat_map-append (λ x. ok_pairs (row_pairs s x)) before (r ∷ []) ∙ ap (λ y. pairs_of s before ++ y) (append-nil (ok_pairs (row_pairs s r)))
+    flat_map-append (λ x. ok_pairs (row_pairs s x)) before (r ∷ [])
+    ∙ ap (λ y. pairs_of s before ++ y) (append-nil (ok_pairs (row_pairs s r)))
 
-mapping_step : (o : Option MapKind) (m : ℕ) (ps : List Pair) (rest all : Result (List Pair) MapFault) (later : Option MapFault) →
-    or_else later all ≡ onto ps rest → or_else (option_or (fault_at m o) later) all ≡ onto ps (unless_fault m o rest)
+mapping_step : (o : Option MapKind) (m : ℕ) (ps : List Pair)
+    (rest all : Result (List Pair) MapFault) (later : Option MapFault) →
+    or_else later all ≡ onto ps rest →
+    or_else (option_or (fault_at m o) later) all ≡ onto ps (unless_fault m o rest)
 mapping_step None m ps rest all later e = e
 mapping_step (Some k) m ps rest all later e = refl
 
 mapping_scanned_behind : (s : Signs) (count n : ℕ) (before rows : List Row) →
-    mapping_behind s count n before rows ≡ onto (pairs_of s before) (scan s count (n + length before) (length (pairs_of s before)) rows)
+    mapping_behind s count n before rows
+    ≡ onto (pairs_of s before)
+    (scan s count (n + length before) (length (pairs_of s before)) rows)
 mapping_scanned_behind s count n before [] = refl
 mapping_scanned_behind s count n before (r ∷ rs) = elim (cases_Bool (is_end s r)) [
-  | inl t ↦ rw t (ap (λ b. Ok (pairs_of s b)) (append-nil before) ∙ ap Ok (sym (append-nil (pairs_of s before))))
+  | inl t ↦ rw t (ap (λ b. Ok (pairs_of s b)) (append-nil before)
+      ∙ ap Ok (sym (append-nil (pairs_of s before))))
   | inr f ↦
       let qs = ok_pairs (row_pairs s r) in
       let next = before ++ r ∷ [] in
       let more : pairs_of s next ≡ pairs_of s before ++ qs = pairs_of-push s before r in
       let line : n + length next ≡ n + length before + 1 = simp length-append (omega arith) in
-      let total : length (pairs_of s next) ≡ length (pairs_of s before) + length qs = ap length more ∙ length-append (pairs_of s before) qs in
-      let later : mapping_behind s count n next rs ≡ onto (pairs_of s before) (onto qs (scan s count (n + length before + 1) (length (pairs_of s before) + length qs) rs)) =
-      mapping_scanned_behind s count n next rs ∙ ap (λ m. onto (pairs_of s next) (scan s count m (length (pairs_of s next)) rs)) line
+      let total : length (pairs_of s next) ≡ length (pairs_of s before) + length qs =
+      ap length more ∙ length-append (pairs_of s before) qs in
+      let later : mapping_behind s count n next rs
+      ≡ onto (pairs_of s before)
+      (onto qs (scan s count (n + length before + 1) (length (pairs_of s before) + length qs)
+      rs)) =
+      mapping_scanned_behind s count n next rs
+      ∙ ap (λ m. onto (pairs_of s next) (scan s count m (length (pairs_of s next)) rs)) line
       ∙ ap (λ m. onto (pairs_of s next) (scan s count (n + length before + 1) m rs)) total
-      ∙ ap (λ ps. onto ps (scan s count (n + length before + 1) (length (pairs_of s before) + length qs) rs)) more
-      ∙ onto_onto (pairs_of s before) qs (scan s count (n + length before + 1) (length (pairs_of s before) + length qs) rs) in
+      ∙ ap (λ ps. onto ps (scan s count (n + length before + 1)
+      (length (pairs_of s before) + length qs) rs)) more
+      ∙ onto_onto (pairs_of s before) qs
+      (scan s count (n + length before + 1) (length (pairs_of s before) + length qs) rs) in
       let lines = until (ends_mapping s) next rs in
       let joined : next ++ lines ≡ before ++ r ∷ lines = append_assoc before (r ∷ []) lines in
-      rw f (mapping_step (fault_behind (length (pairs_of s before)) (row_pairs s r)) (n + length before) (pairs_of s before)
+      rw f (mapping_step (fault_behind (length (pairs_of s before)) (row_pairs s r))
+      (n + length before) (pairs_of s before)
       (onto qs (scan s count (n + length before + 1) (length (pairs_of s before) + length qs) rs))
-      (when_there NoEnd count (behind (ends_mapping s) next rs) (λ _. Ok (pairs_of s (before ++ r ∷ lines)))) (first_fault n (mapping_fault s) next lines)
-      (ap (λ b. or_else (first_fault n (mapping_fault s) next lines) (when_there NoEnd count (behind (ends_mapping s) next rs) (λ _. Ok (pairs_of s b)))) (sym joined) ∙ later))
+      (when_there NoEnd count (behind (ends_mapping s) next rs)
+      (λ _. Ok (pairs_of s (before ++ r ∷ lines)))) (first_fault n (mapping_fault s) next lines)
+      (ap (λ b. or_else (first_fault n (mapping_fault s) next lines)
+      (when_there NoEnd count (behind (ends_mapping s) next rs) (λ _. Ok (pairs_of s b))))
+      (sym joined) ∙ later))
 ]
 
 -- The mapping lines are read one after another.
-pub mapping_scanned : (s : Signs) (count n : ℕ) (rows : List Row) → mapping_of s count n rows ≡ scan s count n 0 rows
+pub mapping_scanned : (s : Signs) (count n : ℕ) (rows : List Row) →
+    mapping_of s count n rows ≡ scan s count n 0 rows
 mapping_scanned s count n rows =
-    mapping_scanned_behind s count n [] rows ∙ onto_nil (scan s count (n + 0) 0 rows) ∙ ap (λ m. scan s count m 0 rows) (add-zero n)
+    mapping_scanned_behind s count n [] rows ∙ onto_nil (scan s count (n + 0) 0 rows)
+    ∙ ap (λ m. scan s count m 0 rows) (add-zero n)
 
 -- All lines behind some of the header, by the lines up to the one that ends it.
 abbrev header_behind : ℕ → List Row → List Row → Result (List Pair) MapFault
 header_behind count before rows =
     let header = until ends_header before rows in
     or_else (first_fault 1 (λ b row. header_fault (signs_behind b) row) before header)
-    (when_there NoStart count (behind ends_header before rows) (λ rest. mapping_of (signs_behind (before ++ header)) count (length (before ++ header) + 2) rest))
+    (when_there NoStart count (behind ends_header before rows)
+    (λ rest. mapping_of (signs_behind (before ++ header)) count (length (before ++ header) + 2)
+    rest))
 
-signs_behind-push : (before : List Row) (r : Row) → signs_behind (before ++ r ∷ []) ≡ signs_after (signs_behind before) r
+signs_behind-push : (before : List Row) (r : Row) →
+    signs_behind (before ++ r ∷ []) ≡ signs_after (signs_behind before) r
 signs_behind-push before r = fold-append signs_after usual_signs before (r ∷ [])
 
-header_step : (o : Option MapKind) (m : ℕ) (rest all : Result (List Pair) MapFault) (later : Option MapFault) →
+header_step : (o : Option MapKind) (m : ℕ) (rest all : Result (List Pair) MapFault)
+    (later : Option MapFault) →
     or_else later all ≡ rest → or_else (option_or (fault_at m o) later) all ≡ unless_fault m o rest
 header_step None m rest all later e = e
 header_step (Some k) m rest all later e = refl
 
-header_scanned_behind : (count : ℕ) (before rows : List Row) → header_behind count before rows ≡ scan_header (signs_behind before) count (1 + length before) rows
+header_scanned_behind : (count : ℕ) (before rows : List Row) →
+    header_behind count before rows
+    ≡ scan_header (signs_behind before) count (1 + length before) rows
 header_scanned_behind count before [] = refl
 header_scanned_behind count before (r ∷ rs) = elim (cases_Bool (is_start (signs_behind before) r)) [
   | inl t ↦ rw t (ap (λ b. mapping_of (signs_behind b) count (length b + 2) rs) (append-nil before)
-      ∙ mapping_scanned (signs_behind before) count (length before + 2) rs ∙ ap (λ n. scan (signs_behind before) count n 0 rs) (omega arith))
+      ∙ mapping_scanned (signs_behind before) count (length before + 2) rs
+      ∙ ap (λ n. scan (signs_behind before) count n 0 rs) (omega arith))
   | inr f ↦
       let next = before ++ r ∷ [] in
       let lines = until ends_header next rs in
       let line : 1 + length next ≡ 1 + length before + 1 = simp length-append (omega arith) in
       let joined : next ++ lines ≡ before ++ r ∷ lines = append_assoc before (r ∷ []) lines in
-      let later : header_behind count next rs ≡ scan_header (signs_after (signs_behind before) r) count (1 + length before + 1) rs =
-      header_scanned_behind count next rs ∙ ap (λ m. scan_header (signs_behind next) count m rs) line
+      let later : header_behind count next rs
+      ≡ scan_header (signs_after (signs_behind before) r) count (1 + length before + 1) rs =
+      header_scanned_behind count next rs
+      ∙ ap (λ m. scan_header (signs_behind next) count m rs) line
       ∙ ap (λ s. scan_header s count (1 + length before + 1) rs) (signs_behind-push before r) in
-      rw f (header_step (header_fault (signs_behind before) r) (1 + length before) (scan_header (signs_after (signs_behind before) r) count (1 + length before + 1) rs)
-      (when_there NoStart count (behind ends_header next rs) (λ rest. mapping_of (signs_behind (before ++ r ∷ lines)) count (length (before ++ r ∷ lines) + 2) rest))
+      rw f (header_step (header_fault (signs_behind before) r) (1 + length before)
+      (scan_header (signs_after (signs_behind before) r) count (1 + length before + 1) rs)
+      (when_there NoStart count (behind ends_header next rs)
+      (λ rest. mapping_of (signs_behind (before ++ r ∷ lines)) count
+      (length (before ++ r ∷ lines) + 2) rest))
       (first_fault 1 (λ b row. header_fault (signs_behind b) row) next lines)
       (ap (λ b. or_else (first_fault 1 (λ c row. header_fault (signs_behind c) row) next lines)
-      (when_there NoStart count (behind ends_header next rs) (λ rest. mapping_of (signs_behind b) count (length b + 2) rest))) (sym joined) ∙ later))
+      (when_there NoStart count (behind ends_header next rs)
+      (λ rest. mapping_of (signs_behind b) count (length b + 2) rest))) (sym joined) ∙ later))
 ]
 
 -- A text is read line by line.
-pub charmap_scanned : (rows : List Row) → charmap_of_rows rows ≡ scan_header usual_signs (length rows) 1 rows
+pub charmap_scanned : (rows : List Row) →
+    charmap_of_rows rows ≡ scan_header usual_signs (length rows) 1 rows
 charmap_scanned rows = header_scanned_behind (length rows) [] rows
 
 -- One mapping line more.
-pub scan_step : (s : Signs) (count n : ℕ) (ps : List Pair) (row : Row) (rows : List Row) → is_end s row ≡ false → fault_behind (length ps) (row_pairs s row) ≡ None →
-    onto (ps ++ ok_pairs (row_pairs s row)) (scan s count (n + 1) (length (ps ++ ok_pairs (row_pairs s row))) rows) ≡ onto ps (scan s count n (length ps) (row ∷ rows))
+pub scan_step : (s : Signs) (count n : ℕ) (ps : List Pair) (row : Row) (rows : List Row) →
+    is_end s row ≡ false → fault_behind (length ps) (row_pairs s row) ≡ None →
+    onto (ps ++ ok_pairs (row_pairs s row))
+    (scan s count (n + 1) (length (ps ++ ok_pairs (row_pairs s row))) rows)
+    ≡ onto ps (scan s count n (length ps) (row ∷ rows))
 scan_step s count n ps row rows f e =
     let qs = ok_pairs (row_pairs s row) in
     ap (λ m. onto (ps ++ qs) (scan s count (n + 1) m rows)) (length-append ps qs)
     ∙ onto_onto ps qs (scan s count (n + 1) (length ps + length qs) rows)
-    ∙ ap (onto ps) (rw f (ap (λ o. unless_fault n o (onto qs (scan s count (n + 1) (length ps + length qs) rows))) (sym e)))
+    ∙ ap (onto ps) (rw f (ap
+    (λ o. unless_fault n o (onto qs (scan s count (n + 1) (length ps + length qs) rows)))
+    (sym e)))
 
 abbrev faulty : MapKind → ℕ → Result (List Pair) MapFault
 faulty kind n = Err (record { kind = kind; line = n })
 
 -- A mapping line with a fault.
-pub scan_fault : (s : Signs) (count n : ℕ) (ps : List Pair) (row : Row) (rows : List Row) (kind : MapKind) → is_end s row ≡ false →
-    fault_behind (length ps) (row_pairs s row) ≡ Some kind → onto ps (scan s count n (length ps) (row ∷ rows)) ≡ Err (record { kind = kind; line = n })
+pub scan_fault : (s : Signs) (count n : ℕ) (ps : List Pair) (row : Row) (rows : List Row)
+    (kind : MapKind) → is_end s row ≡ false →
+    fault_behind (length ps) (row_pairs s row) ≡ Some kind →
+    onto ps (scan s count n (length ps) (row ∷ rows)) ≡ Err (record { kind = kind; line = n })
 scan_fault s count n ps row rows kind f e =
-    let rest = onto (ok_pairs (row_pairs s row)) (scan s count (n + 1) (length ps + length (ok_pairs (row_pairs s row))) rows) in
-    let told : unless_fault n (fault_behind (length ps) (row_pairs s row)) rest ≡ faulty kind n = ap (λ o. unless_fault n o rest) e in
+    let rest = onto (ok_pairs (row_pairs s row))
+    (scan s count (n + 1) (length ps + length (ok_pairs (row_pairs s row))) rows) in
+    let told : unless_fault n (fault_behind (length ps) (row_pairs s row)) rest ≡ faulty kind n =
+    ap (λ o. unless_fault n o rest) e in
     rw f (ap (onto ps) told)
 
 -- The line that ends the mapping lines.
-pub scan_end : (s : Signs) (count n : ℕ) (ps : List Pair) (row : Row) (rows : List Row) → is_end s row ≡ true → onto ps (scan s count n (length ps) (row ∷ rows)) ≡ Ok ps
+pub scan_end : (s : Signs) (count n : ℕ) (ps : List Pair) (row : Row) (rows : List Row) →
+    is_end s row ≡ true → onto ps (scan s count n (length ps) (row ∷ rows)) ≡ Ok ps
 scan_end s count n ps row rows t = rw t (ap Ok (append-nil ps))
 
 without_empty_end-length : (parts : List (List ℕ)) → length (without_empty_end parts) ≤ length parts
 without_empty_end-length [] = omega arith
-without_empty_end-length (part ∷ []) = elim (cases_Bool (eqb (length part) 0)) [ inl t ↦ rw t (omega arith) | inr f ↦ rw f (omega arith) ]
-without_empty_end-length (part ∷ next ∷ more) = omega (arith, without_empty_end-length (next ∷ more))
+without_empty_end-length (part ∷ []) =
+    elim (cases_Bool (eqb (length part) 0))
+    [ inl t ↦ rw t (omega arith) | inr f ↦ rw f (omega arith) ]
+without_empty_end-length (part ∷ next ∷ more) =
+    omega (arith, without_empty_end-length (next ∷ more))
 
 -- A text has at most one line more than it has bytes.
 pub length-lines : (text : List ℕ) → length (lines text) ≤ length text + 1
 length-lines text =
     let newline : ℕ → Bool = λ b. eqb b 10 in
-    omega (arith, without_empty_end-length (slice_split newline text), length-slice_split newline text, count_by-le-length newline text)
+    omega (
+      arith,
+      without_empty_end-length (slice_split newline text),
+      length-slice_split newline
+          text,
+      count_by-le-length newline text,
+    )
 
 -- A text of few bytes that isn't compressed is read line by line.
-pub charmap_read : (text : List ℕ) → length text ≤ 16777216 → starts_with nat_eq text (0x1F ∷ 0x8B ∷ []) ≡ false →
-    charmap_of text ≡ scan_header usual_signs (length (lines text)) 1 (rows_of text)
+pub charmap_read : (text : List ℕ) → length text ≤ 16777216 →
+    starts_with nat_eq text (0x1F ∷ 0x8B ∷ []) ≡ false →
+    charmap_of text ≡ scan_text text
 charmap_read text few plain =
-    rw (le-ltb 16777216 (length text) few, plain) (charmap_scanned (rows_of text) ∙ ap (λ n. scan_header usual_signs n 1 (rows_of text)) (length-map (lines text) row_of))
+    rw (le-ltb 16777216 (length text) few, plain) (charmap_scanned (rows_of text)
+    ∙ ap (λ n. scan_header usual_signs n 1 (rows_of text)) (length-map (lines text) row_of))

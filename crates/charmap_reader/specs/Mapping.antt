@@ -17,7 +17,9 @@ use Rattle.charmap_reader.specs.declared.fault.MapKind.TheVariants.{BadLine, Sym
 
 -- The line ends the mapping lines.
 abbrev pub is_end : Signs → Row → Bool
-is_end signs row = not (is_skipped signs.comment row.first) && bytes_eq row.first (codes "END") && bytes_eq row.second (codes "CHARMAP")
+is_end signs row =
+    not (is_skipped signs.comment row.first) && bytes_eq row.first (codes "END")
+    && bytes_eq row.second (codes "CHARMAP")
 
 -- The line is marked as one that isn't written back, and is passed over.
 abbrev pub is_marked : List ℕ → Bool
@@ -26,7 +28,8 @@ is_marked first = starts_with nat_eq first (codes "%IRREVERSIBLE%")
 -- The pairs from a point and a code on: each next point and each next code is greater by 1.
 abbrev pub members : ℕ → List ℕ → ℕ → List Pair
 members point code count =
-    map (λ k. record { point = point + k; code = big_endian (length code) (value_of code + k) }) (range_with_len 0 count)
+    map (λ k. record { point = point + k; code = big_endian (length code) (value_of code + k) })
+    (range_with_len 0 count)
 
 -- The number of points of a span.
 abbrev pub size_of : Span → ℕ
@@ -43,7 +46,8 @@ is_range span code =
 abbrev pub ranged : Span → Result (List ℕ) CodeFault → Result (List Pair) MapKind
 ranged span (Err word_faults.BadCode) = Err BadCode
 ranged span (Err word_faults.CodeLength) = Err CodeLength
-ranged span (Ok code) = if is_range span code then Ok (members span.first code (size_of span)) else Err BadRange
+ranged span (Ok code) =
+    if is_range span code then Ok (members span.first code (size_of span)) else Err BadRange
 
 -- The pairs of a line that is neither passed over nor marked, or its fault.
 abbrev pub mapped : ℕ → Option Span → List ℕ → Result (List Pair) MapKind
@@ -54,7 +58,8 @@ mapped escape (Some span) (b ∷ bs) = ranged span (code_spelled escape (b ∷ b
 -- The pairs of a mapping line, or its fault.
 abbrev pub row_pairs : Signs → Row → Result (List Pair) MapKind
 row_pairs signs row =
-    if is_marked row.first || is_skipped signs.comment row.first then Ok [] else mapped signs.escape (span_of row.first) row.second
+    if is_marked row.first || is_skipped signs.comment row.first then Ok []
+    else mapped signs.escape (span_of row.first) row.second
 
 abbrev pub ok_pairs : Result (List Pair) MapKind → List Pair
 ok_pairs (Ok pairs) = pairs
@@ -67,7 +72,8 @@ pairs_of signs rows = flat_map (λ row. ok_pairs (row_pairs signs row)) rows
 -- The fault of a line with these pairs behind so many others.
 abbrev pub fault_behind : ℕ → Result (List Pair) MapKind → Option MapKind
 fault_behind count (Err kind) = Some kind
-fault_behind count (Ok pairs) = if nat_lt 2097152 (count + length pairs) then Some TooManyPairs else None
+fault_behind count (Ok pairs) =
+    if nat_lt 2097152 (count + length pairs) then Some TooManyPairs else None
 
 -- The fault of a mapping line behind other mapping lines.
 abbrev pub mapping_fault : Signs → List Row → Row → Option MapKind

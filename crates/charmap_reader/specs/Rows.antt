@@ -3,7 +3,7 @@ use Rattle.std.specs.Prelude.{ℕ, Bool, ◌||◌, ◌==◌, List, [], map, leng
 use Rattle.text_lines.specs.Lines.{lines}
 use Rattle.text_lines.specs.Words.{words}
 
--- The first two words of a line. An empty one stands for a word that isn't there, since no word is empty.
+-- The first two words of a line. No word is empty, so an empty one stands for one that isn't there.
 pub record Row : Type 0 where
   pub first : List ℕ
   pub second : List ℕ

@@ -31,8 +31,8 @@ pub enum MapKind {
 }
 
 impl MapKind {
-    /// The number that a report names the kind by. The number 10 is that of overlapping codes, which
-    /// are found when a table is built.
+    /// The number that a report names the kind by. The number 10 is that of overlapping codes,
+    /// which are found when a table is built.
     pub fn number(self) -> u32
         ensures { result ≡ number_of self }
     {
@@ -55,8 +55,8 @@ impl MapKind {
 #[derive(Clone, Copy, Debug, PartialEq, Eq)]
 pub struct MapFault {
     pub kind: MapKind,
-    /// The number of the line, from 1. It is 0 for a fault of the text as a whole, and the number of
-    /// the lines where one is missing.
+    /// The number of the line, from 1. It is 0 for a fault of the text as a whole, and the number
+    /// of all lines where one is missing.
     pub line: u32,
 }
 

@@ -2,9 +2,9 @@
 
 ghost use Rattle.std.specs.Prelude.{◌≡◌, ◌+◌, ◌<◌, ◌^◌, length, slice_index, true, false, IfSome, IfNone, IfOk, IfErr, Err};
 ghost use Rattle.text_lines.specs.Lines.{lines};
-ghost use Rattle.charmap_reader.specs.Rows.{row_of, rows_of};
-ghost use Rattle.charmap_reader.specs.Header.{usual_signs, is_sign};
-ghost use Rattle.charmap_reader.specs.Scan.{scan, scan_header, IsHeaderLine};
+ghost use Rattle.charmap_reader.specs.Rows.{row_of};
+ghost use Rattle.charmap_reader.specs.Header.{is_sign};
+ghost use Rattle.charmap_reader.specs.Scan.{scan_text, scan_rest, IsHeaderLine};
 
 use crate::fault::{MapFault, MapKind};
 use crate::row::{is_skipped, two_words};
@@ -33,7 +33,8 @@ pub(crate) struct Header<'a> {
 
 /// The character that a word names.
 fn sign_of(word: &[u8]) -> Option<u8>
-    ensures some { IfSome result (λ sign. (is_sign word.now ≡ true) × (sign ≡ slice_index word.now 0)) }
+    ensures some { IfSome result (λ sign.
+        (is_sign word.now ≡ true) × (sign ≡ slice_index word.now 0)) }
     ensures none { IfNone result (is_sign word.now ≡ false) }
 {
     if word.len() == 1 && word[0] >= 0x21 && word[0] <= 0x7e && word[0] != b'<' {
@@ -81,11 +82,12 @@ fn read_header_line(signs: Signs, line: &[u8]) -> HeaderLine
 /// Reads the lines up to the one that ends the header.
 pub(crate) fn read_header(text: &[u8]) -> Result<Header<'_>, MapFault>
     requires { length (lines text.now) + 1 < 2 ^ 32 }
-    ensures ok { IfOk result (λ header. scan_header usual_signs (length (lines text.now)) 1 (rows_of text.now)
-        ≡ scan header.signs (length (lines text.now)) header.line 0 (rows_of header.rest.now)) }
+    ensures ok { IfOk result (λ header.
+        scan_text text.now ≡ scan_rest header.signs header.line header.rest.now) }
     ensures number { IfOk result (λ header. 0 < header.line) }
-    ensures count { IfOk result (λ header. header.line + length (lines header.rest.now) ≡ length (lines text.now) + 1) }
-    ensures err { IfErr result (λ fault. scan_header usual_signs (length (lines text.now)) 1 (rows_of text.now) ≡ Err fault) }
+    ensures count { IfOk result (λ header.
+        header.line + length (lines header.rest.now) ≡ length (lines text.now) + 1) }
+    ensures err { IfErr result (λ fault. scan_text text.now ≡ Err fault) }
 {
     let mut signs = Signs {
         escape: b'\\',

@@ -5,9 +5,9 @@ ghost use Rattle.text_lines.specs.Lines.{lines};
 ghost use Rattle.code_pairs.specs.Bytes.{value_of};
 ghost use Rattle.code_pairs.specs.Tables.{HasPoints};
 ghost use Rattle.charmap_words.specs.Symbols.{span_of};
-ghost use Rattle.charmap_reader.specs.Rows.{row, row_of, rows_of, is_skipped};
+ghost use Rattle.charmap_reader.specs.Rows.{row, row_of, is_skipped};
 ghost use Rattle.charmap_reader.specs.Mapping.{mapped, members, is_end, is_marked};
-ghost use Rattle.charmap_reader.specs.Scan.{scan, Fails, IsMappingLine};
+ghost use Rattle.charmap_reader.specs.Scan.{scan_rest, Fails, IsMappingLine};
 
 use crate::fault::{MapFault, MapKind, ReadFault};
 use crate::members::{is_range, push_members};
@@ -39,7 +39,8 @@ struct Members {
 
 /// The pairs of a line that is neither passed over nor marked.
 fn members_of(escape: u8, first: &[u8], second: &[u8]) -> Result<Members, MapKind>
-    ensures pairs { IfOk result (λ m. mapped escape (span_of first.now) second.now ≡ Ok (members m.point m.code m.count)) }
+    ensures pairs { IfOk result (λ m.
+        mapped escape (span_of first.now) second.now ≡ Ok (members m.point m.code m.count)) }
     ensures points { IfOk result (λ m. m.point + m.count ≤ 1114112) }
     ensures codes { IfOk result (λ m. value_of m.code + m.count ≤ 256 ^ length m.code) }
     ensures fault { IfErr result (λ kind. mapped escape (span_of first.now) second.now ≡ Err kind) }
@@ -88,7 +89,8 @@ fn read_mapping_line(
     pairs: &mut Vec<Pair>,
 ) -> Result<MappingLine, AllocError>
     requires { length pairs.old.items ≤ 2097152 }
-    ensures { IfOk result (λ read. IsMappingLine signs (row_of line.now) pairs.old.items read pairs.new.items) }
+    ensures { IfOk result (λ read.
+        IsMappingLine signs (row_of line.now) pairs.old.items read pairs.new.items) }
 {
     let (first, second) = two_words(line);
     if is_end(signs, first, second) {
@@ -119,10 +121,10 @@ pub(crate) fn read_mapping(
 ) -> Result<Vec<Pair>, ReadFault>
     requires number { 0 < first }
     requires count { first + length (lines text.now) ≤ 2 ^ 32 - 1 }
-    ensures ok { IfOk result (λ pairs. scan signs (first + length (lines text.now) - 1) first 0 (rows_of text.now) ≡ Ok pairs.items) }
+    ensures ok { IfOk result (λ pairs. scan_rest signs first text.now ≡ Ok pairs.items) }
     ensures points { IfOk result (λ pairs. HasPoints pairs.items) }
     ensures few { IfOk result (λ pairs. length pairs.items ≤ 2097152) }
-    ensures err { IfErr result (λ fault. Fails fault (scan signs (first + length (lines text.now) - 1) first 0 (rows_of text.now))) }
+    ensures err { IfErr result (λ fault. Fails fault (scan_rest signs first text.now)) }
 {
     let mut pairs = Vec::new(alloc);
     let mut rest = text;

@@ -1,6 +1,6 @@
 //! Each fault with its line, and texts at the limits.
 
-use crate::{Charmap, Code, MapFault, MapKind, Pair, ReadFault, read_charmap};
+use crate::{Charmap, MapFault, MapKind, ReadFault, read_charmap};
 use std::alloc::{AllocError, Global};
 
 /// A text with these mapping lines, of which the first is line 4.
@@ -44,13 +44,6 @@ fn reads_pairs_in_order(rt: HostRuntime) {
         (0x41, 0x41),
     ];
     assert!(&rt; told.as_slice() == pairs.as_slice());
-    assert!(&rt;
-        map.pairs[4]
-            == Pair {
-                point: 0x41,
-                code: Code::from_bytes(b"A")
-            }
-    );
 }
 
 #[test]

@@ -7,8 +7,10 @@ use Rattle.charmap_words.specs.Digits.{is_decimal, is_octal, is_hex, digit}
 -- The number of four hexadecimal digits from a place on.
 unfoldable pub four : List ℕ → ℕ → Option ℕ
 four text k =
-    if is_hex (slice_index text k) && is_hex (slice_index text (k + 1)) && is_hex (slice_index text (k + 2)) && is_hex (slice_index text (k + 3))
-    then Some (4096 * digit (slice_index text k) + 256 * digit (slice_index text (k + 1)) + 16 * digit (slice_index text (k + 2)) + digit (slice_index text (k + 3)))
+    if is_hex (slice_index text k) && is_hex (slice_index text (k + 1))
+    && is_hex (slice_index text (k + 2)) && is_hex (slice_index text (k + 3))
+    then Some (4096 * digit (slice_index text k) + 256 * digit (slice_index text (k + 1))
+    + 16 * digit (slice_index text (k + 2)) + digit (slice_index text (k + 3)))
     else None
 
 abbrev pub both : Option ℕ → Option ℕ → Option ℕ
@@ -19,9 +21,10 @@ both (Some high) (Some low) = Some (65536 * high + low)
 -- The number that a symbol of 7 or 11 bytes spells.
 unfoldable pub number_in : List ℕ → Option ℕ
 number_in text =
-    if length text == 7 && slice_index text 0 == 60 && slice_index text 1 == 85 && slice_index text 6 == 62 then four text 2
-    else (if length text == 11 && slice_index text 0 == 60 && slice_index text 1 == 85 && slice_index text 10 == 62
-    then both (four text 2) (four text 6) else None)
+    if length text == 7 && slice_index text 0 == 60 && slice_index text 1 == 85
+    && slice_index text 6 == 62 then four text 2
+    else (if length text == 11 && slice_index text 0 == 60 && slice_index text 1 == 85
+    && slice_index text 10 == 62 then both (four text 2) (four text 6) else None)
 
 abbrev pub as_point : Option ℕ → Option ℕ
 as_point None = None
@@ -41,27 +44,31 @@ three_at base text k = base * two_at base text k + digit (slice_index text (k + 
 -- A byte of two hexadecimal digits behind two bytes.
 unfoldable pub hex_byte : List ℕ → Option (ℕ × ℕ)
 hex_byte text =
-    if nat_le 4 (length text) && is_hex (slice_index text 2) && is_hex (slice_index text 3) then Some (two_at 16 text 2, 4) else None
+    if nat_le 4 (length text) && is_hex (slice_index text 2) && is_hex (slice_index text 3)
+    then Some (two_at 16 text 2, 4) else None
 
 -- A byte of three or two decimal digits behind two bytes.
 unfoldable pub decimal_byte : List ℕ → Option (ℕ × ℕ)
 decimal_byte text =
-    if nat_le 5 (length text) && is_decimal (slice_index text 2) && is_decimal (slice_index text 3) && is_decimal (slice_index text 4)
+    if nat_le 5 (length text) && is_decimal (slice_index text 2)
+    && is_decimal (slice_index text 3) && is_decimal (slice_index text 4)
     then small (three_at 10 text 2) 5
-    else (if nat_le 4 (length text) && is_decimal (slice_index text 2) && is_decimal (slice_index text 3)
-    then Some (two_at 10 text 2, 4) else None)
+    else (if nat_le 4 (length text) && is_decimal (slice_index text 2)
+    && is_decimal (slice_index text 3) then Some (two_at 10 text 2, 4) else None)
 
 -- A byte of three or two octal digits behind one byte.
 unfoldable pub octal_byte : List ℕ → Option (ℕ × ℕ)
 octal_byte text =
-    if nat_le 4 (length text) && is_octal (slice_index text 1) && is_octal (slice_index text 2) && is_octal (slice_index text 3)
+    if nat_le 4 (length text) && is_octal (slice_index text 1)
+    && is_octal (slice_index text 2) && is_octal (slice_index text 3)
     then small (three_at 8 text 1) 4
-    else (if nat_le 3 (length text) && is_octal (slice_index text 1) && is_octal (slice_index text 2)
-    then Some (two_at 8 text 1, 3) else None)
+    else (if nat_le 3 (length text) && is_octal (slice_index text 1)
+    && is_octal (slice_index text 2) then Some (two_at 8 text 1, 3) else None)
 
 -- The byte that is spelled at the front.
 unfoldable pub byte_in : ℕ → List ℕ → Option (ℕ × ℕ)
 byte_in escape text =
     if nat_le 2 (length text) && slice_index text 0 == escape
-    then (if slice_index text 1 == 120 then hex_byte text else (if slice_index text 1 == 100 then decimal_byte text else octal_byte text))
+    then (if slice_index text 1 == 120 then hex_byte text
+    else (if slice_index text 1 == 100 then decimal_byte text else octal_byte text))
     else None

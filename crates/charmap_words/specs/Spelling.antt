@@ -20,11 +20,12 @@ three_taken p (a ∷ []) = []
 three_taken p (a ∷ b ∷ []) = two_digits p a b
 three_taken p (a ∷ b ∷ c ∷ more) = if p a && p b && p c then a ∷ b ∷ c ∷ [] else two_digits p a b
 
--- The byte of these digits in a base, and how many bytes spell it with those that stand before them.
+-- The byte of these digits in a base, and how many bytes spell it with those that stand before.
 abbrev pub byte_of : ℕ → ℕ → List ℕ → Option (ℕ × ℕ)
 byte_of base before [] = None
 byte_of base before (d ∷ ds) =
-    if nat_lt (number base (d ∷ ds)) 256 then Some (number base (d ∷ ds), before + length (d ∷ ds)) else None
+    if nat_lt (number base (d ∷ ds)) 256
+    then Some (number base (d ∷ ds), before + length (d ∷ ds)) else None
 
 -- The byte that is spelled behind the escape character: x and two hexadecimal digits, d and two or
 -- three decimal ones, or two or three octal ones.
@@ -32,7 +33,8 @@ abbrev pub byte_behind : List ℕ → Option (ℕ × ℕ)
 byte_behind [] = None
 byte_behind (f ∷ fs) =
     if f == 120 then byte_of 16 2 (two_taken is_hex fs)
-    else (if f == 100 then byte_of 10 2 (three_taken is_decimal fs) else byte_of 8 1 (three_taken is_octal (f ∷ fs)))
+    else (if f == 100 then byte_of 10 2 (three_taken is_decimal fs)
+    else byte_of 8 1 (three_taken is_octal (f ∷ fs)))
 
 -- The byte that is spelled at the front, and how many bytes of the word spell it.
 abbrev pub byte_at : ℕ → List ℕ → Option (ℕ × ℕ)
@@ -52,7 +54,8 @@ then_rest (Some p) word rest = onto p.0 (rest (drop p.1 word))
 abbrev pub bytes_within : ℕ → ℕ → List ℕ → Option (List ℕ)
 bytes_within n escape [] = Some []
 bytes_within zero escape (c ∷ cs) = None
-bytes_within (suc n) escape (c ∷ cs) = then_rest (byte_at escape (c ∷ cs)) (c ∷ cs) (bytes_within n escape)
+bytes_within (suc n) escape (c ∷ cs) =
+    then_rest (byte_at escape (c ∷ cs)) (c ∷ cs) (bytes_within n escape)
 
 -- The bytes that a word spells: each takes some bytes of it.
 abbrev pub spelled : ℕ → List ℕ → Option (List ℕ)

@@ -13,15 +13,19 @@ inner w = take (length w - 3) (drop 2 w)
 -- The word has the form of a symbol: <U, then 4 or 8 hexadecimal digits, then >.
 abbrev pub is_symbol : List ℕ → Bool
 is_symbol w =
-    (length w == 7 || length w == 11) && starts_with nat_eq w (codes "<U") && list_all is_hex (inner w) && slice_index w (length w - 1) == 62
+    (length w == 7 || length w == 11) && starts_with nat_eq w (codes "<U")
+    && list_all is_hex (inner w) && slice_index w (length w - 1) == 62
 
 -- The point that a symbol stands for.
 abbrev pub symbol : List ℕ → Option ℕ
-symbol w = if is_symbol w && is_point (number 16 (inner w)) then Some (number 16 (inner w)) else None
+symbol w =
+    if is_symbol w && is_point (number 16 (inner w)) then Some (number 16 (inner w)) else None
 
 -- What stands behind two or three dots; no bytes where there are none.
 abbrev pub behind_dots : List ℕ → List ℕ
-behind_dots w = if starts_with nat_eq w (codes "...") then drop 3 w else (if starts_with nat_eq w (codes "..") then drop 2 w else [])
+behind_dots w =
+    if starts_with nat_eq w (codes "...") then drop 3 w
+    else (if starts_with nat_eq w (codes "..") then drop 2 w else [])
 
 -- A span from a first point to a last one, where both are there.
 abbrev pub span : Option ℕ → Option ℕ → Option Span

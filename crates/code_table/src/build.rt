@@ -35,10 +35,14 @@ pub fn code_pages(alloc: Global, pairs: &[Pair]) -> Result<Vec<u64>, TableFault>
 {
     match with_trie(alloc, Vec::new(alloc), 0, &Codes { pairs }) {
         Ok(words) => Ok(words),
-        Err(Fault::Overlap { first, second }) => Err(TableFault::Overlap {
-            first: pairs[first].code,
-            second: pairs[second].code,
-        }),
+        Err(Fault::Overlap { first, second }) => {
+            let least = pairs[first].code;
+            let beyond = pairs[second].code;
+            Err(TableFault::Overlap {
+                first: least,
+                second: beyond,
+            })
+        }
         Err(Fault::Memory) => Err(TableFault::Memory),
     }
 }

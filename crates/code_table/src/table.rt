@@ -10,6 +10,7 @@ use crate::build::{code_pages, see_forms, with_points};
 use crate::fault::TableFault;
 use crate::image::{Layout, bytes_in, code_in};
 use crate::lookup::Look;
+use charmap_reader::Charmap;
 use code_pairs::{Code, Pair};
 use std::alloc::Global;
 use std::marker::Model;
@@ -36,14 +37,14 @@ impl Model for CodeTable {
 }
 
 impl CodeTable {
-    /// The table of some pairs. It takes time in proportion to them, and no sort.
-    pub fn of_pairs(alloc: Global, pairs: &Vec<Pair>) -> Result<CodeTable, TableFault>
-        requires { HasPoints pairs.now.items }
-        ensures value { IfOk result (λ table. table ≡ pairs.now.items) }
+    /// The table of a charmap. It takes time in proportion to the pairs, and sorts nothing.
+    pub fn build(alloc: Global, map: &Charmap) -> Result<CodeTable, TableFault>
+        requires { HasPoints map.now.pairs.items }
+        ensures value { IfOk result (λ table. table ≡ map.now.pairs.items) }
         ensures well_formed { IfOk result IsWellFormed }
-        ensures refused { IfErr result (IsTableFault pairs.now.items) }
+        ensures refused { IfErr result (IsTableFault map.now.pairs.items) }
     {
-        let list = pairs.as_slice();
+        let list = map.pairs.as_slice();
         see_forms(list);
         let words = code_pages(alloc, list)?;
         let root = (words.len() / 256) as u32;
@@ -52,7 +53,7 @@ impl CodeTable {
         Ok(CodeTable {
             words,
             layout: Layout { root, pages },
-            pairs: Snapshot::of(pairs),
+            pairs: Snapshot::of(&map.pairs),
         })
     }
 

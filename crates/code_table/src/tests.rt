@@ -4,6 +4,7 @@ ghost use Rattle.std.specs.Prelude.{◌≡◌, ◌<◌, ◌≤◌, length};
 ghost use Rattle.code_pairs.specs.Tables.{IsPoint};
 
 use crate::{CodeTable, Look, Lookup, Owned, TableFault};
+use charmap_reader::Charmap;
 use code_pairs::{Code, Pair};
 use std::test::Fail;
 
@@ -27,7 +28,7 @@ fn a_table_answers_both_ways(rt: HostRuntime) -> Result<(), Fail> {
         make_pair(0x43, &[0x82, 0x00]),
         make_pair(0x44, &[0x82, 0x01]),
     ]?;
-    let table = CodeTable::of_pairs(alloc, &pairs)?;
+    let table = CodeTable::build(alloc, &Charmap { pairs })?;
     assert!(&rt; table.pages() == 6);
     assert!(&rt; table.code(&[0x81]) == Look::Prefix);
     assert!(&rt; table.code(&[]) == Look::Prefix);
@@ -49,7 +50,7 @@ fn a_table_answers_both_ways(rt: HostRuntime) -> Result<(), Fail> {
 fn an_image_has_these_words(rt: HostRuntime) -> Result<(), Fail> {
     let alloc = rt.alloc();
     let pairs = vec![in alloc; make_pair(0x41, &[0x41]), make_pair(0x41, &[0x42])]?;
-    let table = CodeTable::of_pairs(alloc, &pairs)?;
+    let table = CodeTable::build(alloc, &Charmap { pairs })?;
     assert!(&rt; table.pages() == 4);
     assert!(&rt; table.layout().root == 1);
     assert!(&rt; table.word(0, 65) == (1 << 62) + 65);
@@ -79,7 +80,7 @@ fn an_overlap_is_told(rt: HostRuntime) -> Result<(), Fail> {
         make_pair(4, &[0x41]),
         make_pair(5, &[0x41, 0x42]),
     ]?;
-    let Err(fault) = CodeTable::of_pairs(alloc, &pairs) else {
+    let Err(fault) = CodeTable::build(alloc, &Charmap { pairs }) else {
         panic!(&rt; "an overlap was expected");
     };
     let overlap = TableFault::Overlap {

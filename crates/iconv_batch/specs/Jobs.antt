@@ -1,6 +1,5 @@
 -- What a job does: it takes IN, converts it, and puts OUT.
-use Rattle.std.specs.Prelude.{◌≡◌, ◌⊎◌, ℕ, ◌<◌, ◌≤◌, List, [], length, Option, Some, None, IfSome, IsSomeAnd, Vec}
-use Rattle.step_unicode.specs.declared.set.Uni.{Uni}
+use Rattle.std.specs.Prelude.{◌≡◌, ◌⊎◌, ℕ, ◌<◌, ◌≤◌, List, [], length, Option, Some, None, IfSome, IsSomeAnd}
 use Rattle.unit_relations.specs.declared.verdict.Verdict.{Verdict}
 use Rattle.unit_relations.specs.declared.verdict.Verdict.TheVariants as verdict
 use Rattle.chain_steps.specs.declared.recipe.Recipe.{Recipe}
@@ -52,13 +51,13 @@ pub record IsInput (files : Outside) (name x : List ℕ) : Type 0 where
 -- what a job's work gives before its bytes are put
 abbrev pub Works : Outside → Outside → Sets → List ℕ → Work → Type 0
 Works old new sets input work.Absent =
-  (new.told ≡ old.told) × IfSome old.told (λ shelf. content_of shelf input ≡ None)
+    (new.told ≡ old.told) × IfSome old.told (λ shelf. content_of shelf input ≡ None)
 Works old new sets input work.TooLarge =
-  (new.told ≡ old.told) × IfSome old.told (λ shelf. IsSomeAnd (content_of shelf input) (λ x. limit < length x))
+    (new.told ≡ old.told) × IfSome old.told (λ shelf. IsSomeAnd (content_of shelf input) (λ x. limit < length x))
 Works old new sets input work.ReadFault = (new.told ≡ old.told) × Rose old.takes new.takes
 Works old new sets input (work.Converted whole read) = (new.told ≡ old.told)
-  × (x : List ℕ) × IsInput old input x × (read ≡ length x)
-  × Converts sets x whole.bytes.items (verdict_at whole.finish) (offset_at whole.finish (length x))
+    × (x : List ℕ) × IsInput old input x × (read ≡ length x)
+    × Converts sets x whole.bytes.items (verdict_at whole.finish) (offset_at whole.finish (length x))
 
 -- how a job ends whose bytes were put
 abbrev pub ending_of : Finish → ℕ → ℕ → Ending
@@ -73,34 +72,34 @@ faulted read = record { outcome = WriteFault; read = read; written = 0 }
 -- bytes were put and the job ended by its conversion, or putting them failed
 abbrev pub Settles : Outside → Outside → List ℕ → Whole → ℕ → Ending → Type 0
 Settles old new output whole read end =
-  ((end ≡ ending_of whole.finish read (length whole.bytes.items))
+    ((end ≡ ending_of whole.finish read (length whole.bytes.items))
     × PutsWhereTold old.told new.told output whole.bytes.items put.Done)
-  ⊎ ((end ≡ faulted read) × Rose old.puts new.puts
+    ⊎ ((end ≡ faulted read) × Rose old.puts new.puts
     × PutsWhereTold old.told new.told output whole.bytes.items put.Failed)
 
 -- OUT holds the conversion of IN with that verdict and place, and other names hold what they held
 abbrev pub PutsAll : Outside → Outside → Sets → List ℕ → List ℕ → ℕ → ℕ → Verdict → Option ℕ → Type 0
 PutsAll old new sets input output read written v place = (x : List ℕ) × (w : List ℕ) × (at : ℕ) × IsInput old input x
-  × (read ≡ length x) × (written ≡ length w) × IfSome place (λ k. k ≡ at) × Converts sets x w v at
-  × PutsWhereTold old.told new.told output w put.Done
+    × (read ≡ length x) × (written ≡ length w) × IfSome place (λ k. k ≡ at) × Converts sets x w v at
+    × PutsWhereTold old.told new.told output w put.Done
 
 -- what a job that ended so has found and left
 abbrev pub EndsAs : Outside → Outside → Sets → List ℕ → List ℕ → ℕ → ℕ → Outcome → Type 0
 EndsAs old new sets input output read written (Good count) =
-  (count ≡ written) × PutsAll old new sets input output read written verdict.Done None
+    (count ≡ written) × PutsAll old new sets input output read written verdict.Done None
 EndsAs old new sets input output read written (Illegal at) =
-  PutsAll old new sets input output read written verdict.Illegal (Some at)
+    PutsAll old new sets input output read written verdict.Illegal (Some at)
 EndsAs old new sets input output read written (Incomplete at) =
-  PutsAll old new sets input output read written verdict.Incomplete (Some at)
+    PutsAll old new sets input output read written verdict.Incomplete (Some at)
 EndsAs old new sets input output read written Absent = (new.told ≡ old.told) × (read ≡ 0) × (written ≡ 0)
-  × IfSome old.told (λ shelf. content_of shelf input ≡ None)
+    × IfSome old.told (λ shelf. content_of shelf input ≡ None)
 EndsAs old new sets input output read written TooLarge = (new.told ≡ old.told) × (read ≡ 0) × (written ≡ 0)
-  × IfSome old.told (λ shelf. IsSomeAnd (content_of shelf input) (λ x. limit < length x))
+    × IfSome old.told (λ shelf. IsSomeAnd (content_of shelf input) (λ x. limit < length x))
 EndsAs old new sets input output read written ReadFault = (new.told ≡ old.told) × (read ≡ 0) × (written ≡ 0)
-  × Rose old.takes new.takes
+    × Rose old.takes new.takes
 EndsAs old new sets input output read written WriteFault = (written ≡ 0) × Rose old.puts new.puts
-  × (x : List ℕ) × (w : List ℕ) × (v : Verdict) × (at : ℕ) × IsInput old input x × (read ≡ length x) × Converts sets x w v at
-  × PutsWhereTold old.told new.told output w put.Failed
+    × (x : List ℕ) × (w : List ℕ) × (v : Verdict) × (at : ℕ) × IsInput old input x × (read ≡ length x) × Converts sets x w v at
+    × PutsWhereTold old.told new.told output w put.Failed
 
 -- the counts of faults have not fallen
 pub record CountsRise (old new : Outside) : Type 0 where

@@ -27,17 +27,17 @@ good_count WriteFault = 0
 -- the job's line and the summary line
 abbrev pub report_lines : List ℕ → ℕ → ℕ → ℕ → ℕ → List ℕ
 report_lines text good bad read written =
-  codes "1: " ++ (text ++ (codes "\njobs 1 ok " ++ (decimal good ++ (codes " failed "
+    codes "1: " ++ (text ++ (codes "\njobs 1 ok " ++ (decimal good ++ (codes " failed "
     ++ (decimal bad ++ (codes " read " ++ (decimal read ++ (codes " written " ++ (decimal written ++ codes "\n")))))))))
 
 -- the report of a job that ended so, and read and put so many bytes
 unfoldable pub report_of : Outcome → ℕ → ℕ → List ℕ
 report_of outcome read written =
-  report_lines (text_of outcome) (good_count outcome) (1 - good_count outcome) read written
+    report_lines (text_of outcome) (good_count outcome) (1 - good_count outcome) read written
 
 -- what is written where the words aren't understood
 abbrev pub usage_line : List ℕ
-usage_line = codes "usage: iconv_batch -f FROM -t TO IN OUT\n"
+usage_line = codes "usage: iconv_batch --modules F --bindings F --charmaps DIR --jobs JOBS [--workers N] [--pages P] [--journal F]\n"
 
 -- what is written where memory was wanting
 abbrev pub memory_line : List ℕ

@@ -15,13 +15,13 @@ word words at = slice_index_or (map string_bytes words) at []
 -- the set of a normal name: one of the six that need no table
 abbrev pub set_of : List ℕ → Option Uni
 set_of name =
-  if bytes_eq name (codes "ASCII//") then Some Ascii
-  else if bytes_eq name (codes "UTF-8//") then Some Utf8
-  else if bytes_eq name (codes "UTF-16//") then Some Utf16
-  else if bytes_eq name (codes "UTF-16LE//") then Some Utf16Le
-  else if bytes_eq name (codes "UTF-16BE//") then Some Utf16Be
-  else if bytes_eq name (codes "UCS-4//") then Some Ucs4
-  else None
+    if bytes_eq name (codes "ASCII//") then Some Ascii
+    else if bytes_eq name (codes "UTF-8//") then Some Utf8
+    else if bytes_eq name (codes "UTF-16//") then Some Utf16
+    else if bytes_eq name (codes "UTF-16LE//") then Some Utf16Le
+    else if bytes_eq name (codes "UTF-16BE//") then Some Utf16Be
+    else if bytes_eq name (codes "UCS-4//") then Some Ucs4
+    else None
 
 -- the set of a name, where it has a normal form
 abbrev pub set_where_normal : Result (List ℕ) NameFault → Option Uni
@@ -45,6 +45,6 @@ both None to = None
 -- the sets that `-f FROM -t TO IN OUT` names; other words ask for nothing
 abbrev pub asked : List (String Global) → Option Sets
 asked words =
-  if length words == 6 && bytes_eq (word words 0) (codes "-f") && bytes_eq (word words 2) (codes "-t")
-  then both (set_named (word words 1)) (set_named (word words 3))
-  else None
+    if length words == 6 && bytes_eq (word words 0) (codes "-f") && bytes_eq (word words 2) (codes "-t")
+    then both (set_named (word words 1)) (set_named (word words 3))
+    else None

@@ -6,9 +6,9 @@ ghost use Rattle.step_buffers.specs.Stands.{StandsFor};
 ghost use Rattle.step_buffers.specs.Ends.{verdict_at, offset_at};
 ghost use Rattle.iconv_batch.specs.Jobs.{Converts, limit, recipe_of};
 
-use crate::tables::NoTables;
 use crate::words::Sets;
 use chain_steps::{Bound, Converter, Joints, Recipe, Runner, Set};
+use code_table::Owned;
 use std::alloc::{AllocError, Global};
 use step_buffers::{LONGEST_PIECE, Session, Whole};
 
@@ -48,7 +48,9 @@ pub fn converted(alloc: Global, sets: Sets, input: &[u8]) -> Result<Whole, Alloc
         joints: Joints::none(alloc),
         writer: Set::Unicode(sets.to),
     });
-    let mut tables = NoTables;
+    let mut tables = Owned {
+        tables: Vec::new(alloc),
+    };
     let mut converter = Bound {
         runner: &mut runner,
         tables: &mut tables,

@@ -158,6 +158,9 @@ pub fn do_job<F: Files>(
         Work::Absent => without_output(alloc, Outcome::Absent, 0),
         Work::TooLarge => without_output(alloc, Outcome::TooLarge, 0),
         Work::ReadFault => without_output(alloc, Outcome::ReadFault, 0),
-        Work::Converted { whole, read } => settle(alloc, files, output, &whole, read),
+        Work::Converted { whole, read } => {
+            let told = settle(alloc, files, output, &whole, read)?;
+            Ok(told)
+        }
     }
 }

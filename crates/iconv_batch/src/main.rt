@@ -5,7 +5,6 @@ mod convert;
 mod job;
 mod report;
 mod run;
-mod tables;
 #[cfg(test)]
 mod tests;
 mod words;

@@ -38,7 +38,8 @@ pub struct Ended {
     pub cause: Cause,
 }
 
-const USAGE: &str = "usage: iconv_batch -f FROM -t TO IN OUT\n";
+const USAGE: &str =
+    "usage: iconv_batch --modules F --bindings F --charmaps DIR --jobs JOBS [--workers N] [--pages P] [--journal F]\n";
 
 const NO_MEMORY: &str = "out of memory\n";
 

@@ -5,3 +5,4 @@ pub mod KindsByName
 pub mod OrdinalSearch
 pub mod Whole
 pub mod Shaping
+pub mod NodeLaws

@@ -15,7 +15,8 @@ use Rattle.modules_conf.specs.declared.kind.Kind.{Kind}
 use Rattle.module_graph.specs.declared.edge.Edge.{Edge}
 use Rattle.module_graph.specs.declared.draft.Draft.{Draft}
 use Rattle.module_graph.specs.Edges.{NamedEdge, builtin_pair, builtin_edges, named_edges, skipped_lines, edge_by, edge_of_line, kind_of_line}
-use Rattle.module_graph.specs.Numbers.{node_names, kinds_after, node_number, numbered, graph_of}
+use Rattle.module_graph.specs.Numbers.{node_names, kinds_after, node_number, numbered, graph_of, is_end}
+use Rattle.module_graph.proofs.NodeLaws.{nodes_are_ends}
 use Rattle.module_graph.specs.Graph.{Shape, IsEdge, IsGraph}
 use Rattle.module_graph.specs.Drafts.{IsDraft}
 use Rattle.module_graph.specs.Rows.{AreRows, IsIndexed}
@@ -164,3 +165,7 @@ indexed lines bindings h d skipped rows is counted sorted = record {
   sorted = sorted;
   few_kinds = subst (λ ks. length ks < 2 ^ 30) (sym is.kinds) (few_modules lines bindings h);
 }
+
+-- its nodes are the ends of its edges
+pub node_ends : (lines : List EdgeLine) (bindings : List Binding) (d : Draft) → IsDraft (named_edges lines bindings) d → (name : List ℕ) → list_any (bytes_eq name) d.names.keys ≡ is_end (named_edges lines bindings) name
+node_ends lines bindings d is name = ap (list_any (bytes_eq name)) is.nodes ∙ nodes_are_ends (named_edges lines bindings) name

@@ -1,5 +1,5 @@
 -- The numbers of nodes and modules.
-use Rattle.std.specs.Prelude.{ℕ, Bool, false, ◌&&◌, if◌then◌else◌, List, [], ◌∷◌, ◌++◌, map, unwrap_or}
+use Rattle.std.specs.Prelude.{ℕ, Bool, false, ◌&&◌, ◌||◌, if◌then◌else◌, List, [], ◌∷◌, ◌++◌, map, unwrap_or}
 use Rattle.std.specs.List.{list_any, filter_map, flat_map, position}
 use Rattle.std.specs.Option.{option_and_then}
 use Rattle.std.specs.Str.{bytes_eq}
@@ -31,6 +31,10 @@ same_kind (Recode a b) (Recode c d) = bytes_eq a c && bytes_eq b d
 -- The nodes are the ends of the edges in the order of their first appearance, source before target.
 abbrev pub node_names : List NamedEdge → List (List ℕ)
 node_names edges = with_new bytes_eq [] (flat_map (λ e. e.source ∷ e.target ∷ []) edges)
+
+-- A name is an end of one of these edges.
+abbrev pub is_end : List NamedEdge → List ℕ → Bool
+is_end edges name = list_any (λ e. bytes_eq name e.source || bytes_eq name e.target) edges
 
 -- The modules are the kinds seen before, and the new ones of the edges in the order of their first appearance.
 abbrev pub kinds_after : List Kind → List NamedEdge → List Kind

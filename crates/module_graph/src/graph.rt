@@ -1,11 +1,12 @@
 //! The graph.
-ghost use Rattle.std.specs.Prelude.{◌≡◌, ◌==◌, ◌<◌, length, slice_get, position, Some, IfOk};
-ghost use Rattle.std.specs.List.{find};
+ghost use Rattle.std.specs.Prelude.{ℕ, List, ◌≡◌, ◌==◌, ◌<◌, length, slice_get, position, Some, IfSome, IfOk};
+ghost use Rattle.std.specs.List.{find, list_any};
 ghost use Rattle.std.specs.Option.{option_copied};
 ghost use Rattle.std.specs.Str.{bytes_eq};
 ghost use Rattle.modules_conf.specs.Limits.{IsWithinLimits};
+ghost use Rattle.module_graph.specs.Edges.{named_edges};
 ghost use Rattle.module_graph.specs.Graph.{IsGraph, edges_into};
-ghost use Rattle.module_graph.specs.Numbers.{graph_of};
+ghost use Rattle.module_graph.specs.Numbers.{graph_of, is_end};
 
 use crate::build::drafted;
 use crate::draft::Draft;
@@ -45,7 +46,10 @@ impl Graph {
     /// INTERNAL, and the ends suit the module's kind. Its ordinal is 15 more than its line's number.
     pub fn build(alloc: Global, conf: &Conf, bindings: &Bindings) -> Result<Graph, AllocError>
         requires { IsWithinLimits conf.now.edges }
-        ensures { IfOk result (λ graph. graph ≡ graph_of conf.now.edges bindings.now) }
+        ensures value { IfOk result (λ graph. graph ≡ graph_of conf.now.edges bindings.now) }
+        // A name is a node exactly where it is an end of an edge.
+        ensures ends { IfOk result (λ graph. (name : List ℕ)
+            → list_any (bytes_eq name) graph.nodes ≡ is_end (named_edges conf.now.edges bindings.now) name) }
     {
         let (draft, skipped) = drafted(alloc, conf.edges.as_slice(), bindings.as_slice())?;
         let Draft {
@@ -88,7 +92,8 @@ impl Graph {
 
     /// The node of a name, or none where the name is no end of an edge.
     pub fn node_of(&self, name: &Name) -> Option<u32>
-        ensures { result ≡ position (bytes_eq name.now) self.now.nodes }
+        ensures value { result ≡ position (bytes_eq name.now) self.now.nodes }
+        ensures within { IfSome result (λ node. node < length self.now.nodes) }
     {
         match self.names.get_index_of(name) {
             Some(node) => Some(node as u32),

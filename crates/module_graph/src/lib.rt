@@ -10,6 +10,8 @@ mod draft;
 mod edge;
 mod graph;
 mod rows;
+#[cfg(test)]
+mod tests;
 
 pub use edge::Edge;
 pub use graph::Graph;

@@ -27,9 +27,9 @@ numbers_from : (m : ℕ) (ls : List (List ℕ)) → All (λ (e : EdgeLine). (m �
 numbers_from m [] = All-nil _
 numbers_from m (l ∷ ls) =
     All-cons_option (λ (e : EdgeLine). (m ≤ e.line) × (e.line < m + length (l ∷ ls))) (edge_line m (conf_words l)) (edges_among (enumerate_from (m + 1) ls))
-      (λ e is. (omega (arith, line-edge_line m (conf_words l) e is), omega (arith, line-edge_line m (conf_words l) e is)))
-      (All-weaker (λ (e : EdgeLine). (m + 1 ≤ e.line) × (e.line < m + 1 + length ls)) (λ (e : EdgeLine). (m ≤ e.line) × (e.line < m + length (l ∷ ls))) (λ e h. (omega (arith, h.0), omega (arith, h.1)))
-        (edges_among (enumerate_from (m + 1) ls)) (numbers_from (m + 1) ls))
+    (λ e is. (omega (arith, line-edge_line m (conf_words l) e is), omega (arith, line-edge_line m (conf_words l) e is)))
+    (All-weaker (λ (e : EdgeLine). (m + 1 ≤ e.line) × (e.line < m + 1 + length ls)) (λ (e : EdgeLine). (m ≤ e.line) × (e.line < m + length (l ∷ ls))) (λ e h. (omega (arith, h.0), omega (arith, h.1)))
+    (edges_among (enumerate_from (m + 1) ls)) (numbers_from (m + 1) ls))
 
 rises_at : (x : ℕ) (xs : List ℕ) → All (λ y. x < y) xs → IsStrictlyIncreasing xs → (k : ℕ) → suc k < length (x ∷ xs) → get_or (x ∷ xs) k 0 < get_or xs k 0
 rises_at x xs above rising zero lt = above 0 0 (omega arith)
@@ -43,15 +43,15 @@ increasing-option : (o : Option EdgeLine) (m : ℕ) (es : List EdgeLine) → ((e
 increasing-option None m es first later rising = rising
 increasing-option (Some e) m es first later rising =
     increasing-cons e.line (map (λ (e : EdgeLine). e.line) es)
-      (All-map (λ y. e.line < y) (λ (e : EdgeLine). e.line) es (All-weaker (λ (f : EdgeLine). m + 1 ≤ f.line) (λ (f : EdgeLine). e.line < f.line) (λ f h. omega (arith, h, first e refl)) es later)) rising
+    (All-map (λ y. e.line < y) (λ (e : EdgeLine). e.line) es (All-weaker (λ (f : EdgeLine). m + 1 ≤ f.line) (λ (f : EdgeLine). e.line < f.line) (λ f h. omega (arith, h, first e refl)) es later)) rising
 
 -- The edges among numbered lines rise.
 numbers_rise : (m : ℕ) (ls : List (List ℕ)) → IsStrictlyIncreasing (map (λ (e : EdgeLine). e.line) (edges_among (enumerate_from m ls)))
 numbers_rise m [] = λ k lt. absurd (omega arith)
 numbers_rise m (l ∷ ls) =
     increasing-option (edge_line m (conf_words l)) m (edges_among (enumerate_from (m + 1) ls)) (line-edge_line m (conf_words l))
-      (All-weaker (λ (e : EdgeLine). (m + 1 ≤ e.line) × (e.line < m + 1 + length ls)) (λ (e : EdgeLine). m + 1 ≤ e.line) (λ e h. h.0) (edges_among (enumerate_from (m + 1) ls)) (numbers_from (m + 1) ls))
-      (numbers_rise (m + 1) ls)
+    (All-weaker (λ (e : EdgeLine). (m + 1 ≤ e.line) × (e.line < m + 1 + length ls)) (λ (e : EdgeLine). m + 1 ≤ e.line) (λ e h. h.0) (edges_among (enumerate_from (m + 1) ls)) (numbers_from (m + 1) ls))
+    (numbers_rise (m + 1) ls)
 
 abbrev IsCost : ℕ → Type 0
 IsCost n = (1 ≤ n) × (n ≤ MOST_COST)
@@ -103,7 +103,7 @@ IsWithinLimits-conf_of text conf is short few =
     record {
       rising = subst (λ es. IsStrictlyIncreasing (map (λ (e : EdgeLine). e.line) es)) edges (numbers_rise 1 (lines text));
       lines = subst (λ es. All (λ (e : EdgeLine). e.line ≤ MOST_BYTES) es) edges
-        (All-weaker (λ (e : EdgeLine). (1 ≤ e.line) × (e.line < 1 + length (lines text))) (λ (e : EdgeLine). e.line ≤ MOST_BYTES) (λ e h. omega (arith, h.1, length-lines text)) (edge_lines text) (numbers_from 1 (lines text)));
+          (All-weaker (λ (e : EdgeLine). (1 ≤ e.line) × (e.line < 1 + length (lines text))) (λ (e : EdgeLine). e.line ≤ MOST_BYTES) (λ e h. omega (arith, h.1, length-lines text)) (edge_lines text) (numbers_from 1 (lines text)));
       count = few;
       costs = subst (λ es. All (λ (e : EdgeLine). (1 ≤ e.cost) × (e.cost ≤ MOST_COST)) es) edges (costs_from 1 (lines text));
     }

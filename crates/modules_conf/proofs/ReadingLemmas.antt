@@ -46,10 +46,10 @@ conf_with-cons : (conf : Conf) (n : ℕ) (line : List ℕ) (ps : List (ℕ × Li
 unfolding conf_with
 conf_with-cons conf n line ps e a b is_e is_a is_b =
     same_conf (conf.edges ++ edges_among ((n, line) ∷ ps)) (conf.edges ++ cons_option e (edges_among ps)) (conf.aliases ++ aliases_among ((n, line) ∷ ps)) (conf.aliases ++ cons_option a (aliases_among ps))
-      (conf.passed + passed_among ((n, line) ∷ ps)) (conf.passed + (cond b 1 0 + passed_among ps))
-      (ap (λ o. conf.edges ++ cons_option o (edges_among ps)) is_e)
-      (ap (λ o. conf.aliases ++ cons_option o (aliases_among ps)) is_a)
-      (ap (λ k. conf.passed + k) (sum_by-cons (λ p. cond (is_passed p.0 (conf_words p.1)) 1 0) (n, line) ps ∙ ap (λ t. cond t 1 0 + passed_among ps) is_b))
+    (conf.passed + passed_among ((n, line) ∷ ps)) (conf.passed + (cond b 1 0 + passed_among ps))
+    (ap (λ o. conf.edges ++ cons_option o (edges_among ps)) is_e)
+    (ap (λ o. conf.aliases ++ cons_option o (aliases_among ps)) is_a)
+    (ap (λ k. conf.passed + k) (sum_by-cons (λ p. cond (is_passed p.0 (conf_words p.1)) 1 0) (n, line) ps ∙ ap (λ t. cond t 1 0 + passed_among ps) is_b))
 
 passed-edge : (n : ℕ) (ws : List (List ℕ)) (e : EdgeLine) → edge_line n ws ≡ Some e → is_passed n ws ≡ false
 passed-edge n ws e is = rw is (and_false (nat_lt 0 (length ws)) (not (is_some (alias_line n ws))))
@@ -81,7 +81,7 @@ Takes-edge conf n line e edges is pushed = λ ls.
     let ps = enumerate_from (n + 1) ls in
     conf_with-cons conf n line ps (Some e) None false is (alias_line-edge n (conf_words line) e is) (passed-edge n (conf_words line) e is)
     ∙ same_conf (conf.edges ++ e ∷ edges_among ps) (edges ++ edges_among ps) (conf.aliases ++ aliases_among ps) (conf.aliases ++ aliases_among ps) (conf.passed + (0 + passed_among ps)) (conf.passed + passed_among ps)
-      (sym (append_assoc conf.edges (e ∷ []) (edges_among ps)) ∙ ap (λ xs. xs ++ edges_among ps) (sym pushed)) refl (omega arith)
+    (sym (append_assoc conf.edges (e ∷ []) (edges_among ps)) ∙ ap (λ xs. xs ++ edges_among ps) (sym pushed)) refl (omega arith)
 
 -- An alias line that is no module line adds itself.
 pub Takes-alias : (conf : Conf) (n : ℕ) (line : List ℕ) (a : AliasLine) (aliases : List AliasLine) → edge_line n (conf_words line) ≡ None → alias_line n (conf_words line) ≡ Some a
@@ -91,7 +91,7 @@ Takes-alias conf n line a aliases no_edge is pushed = λ ls.
     let ps = enumerate_from (n + 1) ls in
     conf_with-cons conf n line ps None (Some a) false no_edge is (passed-alias n (conf_words line) a is)
     ∙ same_conf (conf.edges ++ edges_among ps) (conf.edges ++ edges_among ps) (conf.aliases ++ a ∷ aliases_among ps) (aliases ++ aliases_among ps) (conf.passed + (0 + passed_among ps)) (conf.passed + passed_among ps)
-      refl (sym (append_assoc conf.aliases (a ∷ []) (aliases_among ps)) ∙ ap (λ xs. xs ++ aliases_among ps) (sym pushed)) (omega arith)
+    refl (sym (append_assoc conf.aliases (a ∷ []) (aliases_among ps)) ∙ ap (λ xs. xs ++ aliases_among ps) (sym pushed)) (omega arith)
 
 -- Any other line with words is passed over.
 pub Takes-passed : (conf : Conf) (n : ℕ) (line : List ℕ) → (length (conf_words line) ≡ 0 → ⊥) → edge_line n (conf_words line) ≡ None → alias_line n (conf_words line) ≡ None
@@ -102,7 +102,7 @@ Takes-passed conf n line some no_edge no_alias = λ ls.
     let passed : is_passed n (conf_words line) ≡ true = rw (no_edge, no_alias, lt-ltb 0 (length (conf_words line)) (omega arith)) refl in
     conf_with-cons conf n line ps None None true no_edge no_alias passed
     ∙ same_conf (conf.edges ++ edges_among ps) (conf.edges ++ edges_among ps) (conf.aliases ++ aliases_among ps) (conf.aliases ++ aliases_among ps) (conf.passed + (1 + passed_among ps)) (conf.passed + 1 + passed_among ps)
-      refl refl (omega arith)
+    refl refl (omega arith)
 
 -- The element behind so many others.
 slice_get-seam : {X : Type 0} (xs : List X) (y : X) (ys : List X) (n : ℕ) → n ≡ length xs → slice_get (xs ++ y ∷ ys) n ≡ Some y
@@ -130,7 +130,7 @@ later_get : {X : Type 0} (line : X → ℕ) (f : ℕ × List ℕ → Option X) �
 later_get line f numbers n m [] k x le is = absurd (cc)
 later_get line f numbers n m (l ∷ ls) k x le is =
     later_at line n x (f (m, l)) (filter_map f (enumerate_from (m + 1) ls)) k (λ y e. omega (arith, numbers (m, l) y e))
-      (λ i at. later_get line f numbers n (m + 1) ls i x (omega arith) at) is
+    (λ i at. later_get line f numbers n (m + 1) ls i x (omega arith) at) is
 
 slice_get-behind : {X : Type 0} (xs ys : List X) (k : ℕ) → length xs ≤ k → slice_get (xs ++ ys) k ≡ slice_get ys (k - length xs)
 slice_get-behind [] ys k le = ap (slice_get ys) (omega arith)
@@ -163,12 +163,12 @@ Refuses-edge conf n line e is few full fault told = λ ls.
     let number : e.line ≡ n = line-edge_line n (conf_words line) e is in
     let seam : slice_get (conf.edges ++ e ∷ edges_among ps) MOST_LINES ≡ Some e = slice_get-seam conf.edges e (edges_among ps) MOST_LINES (omega (arith, full, few.edges)) in
     let least : least_of (Some n) (option_map (λ (a : AliasLine). a.line) (slice_get (conf.aliases ++ aliases_among ps) MOST_LINES)) ≡ Some n =
-      least-first (λ (a : AliasLine). a.line) n (slice_get (conf.aliases ++ aliases_among ps) MOST_LINES)
-        (later_than (λ (a : AliasLine). a.line) (λ p. alias_line p.0 (conf_words p.1)) (λ p a. line-alias_line p.0 (conf_words p.1) a) n conf.aliases ls few.aliases) in
+    least-first (λ (a : AliasLine). a.line) n (slice_get (conf.aliases ++ aliases_among ps) MOST_LINES)
+    (later_than (λ (a : AliasLine). a.line) (λ p. alias_line p.0 (conf_words p.1)) (λ p a. line-alias_line p.0 (conf_words p.1) a) n conf.aliases ls few.aliases) in
     conf_with-cons conf n line ps (Some e) None false is (alias_line-edge n (conf_words line) e is) (passed-edge n (conf_words line) e is)
     ∙ unless_least (line_too_many (record { edges = conf.edges ++ e ∷ edges_among ps; aliases = conf.aliases ++ aliases_among ps; passed = conf.passed + (0 + passed_among ps) })) n
-        (record { edges = conf.edges ++ e ∷ edges_among ps; aliases = conf.aliases ++ aliases_among ps; passed = conf.passed + (0 + passed_among ps) })
-        (rw (seam, number) least)
+    (record { edges = conf.edges ++ e ∷ edges_among ps; aliases = conf.aliases ++ aliases_among ps; passed = conf.passed + (0 + passed_among ps) })
+    (rw (seam, number) least)
     ∙ ap (λ k. Err (TooManyLines k)) (sym number) ∙ ap Err (sym told)
 
 -- An alias line beyond the limit is refused, whatever lines follow.
@@ -180,10 +180,10 @@ Refuses-alias conf n line a no_edge is few full fault told = λ ls.
     let number : a.line ≡ n = line-alias_line n (conf_words line) a is in
     let seam : slice_get (conf.aliases ++ a ∷ aliases_among ps) MOST_LINES ≡ Some a = slice_get-seam conf.aliases a (aliases_among ps) MOST_LINES (omega (arith, full, few.aliases)) in
     let least : least_of (option_map (λ (e : EdgeLine). e.line) (slice_get (conf.edges ++ edges_among ps) MOST_LINES)) (Some n) ≡ Some n =
-      least-second (λ (e : EdgeLine). e.line) n (slice_get (conf.edges ++ edges_among ps) MOST_LINES)
-        (later_than (λ (e : EdgeLine). e.line) (λ p. edge_line p.0 (conf_words p.1)) (λ p e. line-edge_line p.0 (conf_words p.1) e) n conf.edges ls few.edges) in
+    least-second (λ (e : EdgeLine). e.line) n (slice_get (conf.edges ++ edges_among ps) MOST_LINES)
+    (later_than (λ (e : EdgeLine). e.line) (λ p. edge_line p.0 (conf_words p.1)) (λ p e. line-edge_line p.0 (conf_words p.1) e) n conf.edges ls few.edges) in
     conf_with-cons conf n line ps None (Some a) false no_edge is (passed-alias n (conf_words line) a is)
     ∙ unless_least (line_too_many (record { edges = conf.edges ++ edges_among ps; aliases = conf.aliases ++ a ∷ aliases_among ps; passed = conf.passed + (0 + passed_among ps) })) n
-        (record { edges = conf.edges ++ edges_among ps; aliases = conf.aliases ++ a ∷ aliases_among ps; passed = conf.passed + (0 + passed_among ps) })
-        (rw (seam, number) least)
+    (record { edges = conf.edges ++ edges_among ps; aliases = conf.aliases ++ a ∷ aliases_among ps; passed = conf.passed + (0 + passed_among ps) })
+    (rw (seam, number) least)
     ∙ ap (λ k. Err (TooManyLines k)) (sym number) ∙ ap Err (sym told)

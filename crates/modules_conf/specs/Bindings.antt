@@ -4,7 +4,7 @@ use Rattle.std.specs.List.{list_all, list_any, filter_map, enumerate_from}
 use Rattle.std.specs.Str.{bytes_eq}
 use Rattle.text_lines.specs.Lines.{numbered_lines}
 use Rattle.text_lines.specs.Words.{words}
-use Rattle.modules_conf.specs.Charmaps.{is_charmap_word}
+use Rattle.modules_conf.specs.Charmaps.{names_charmaps}
 use Rattle.modules_conf.specs.declared.limits.TheConstants.{MOST_LINES}
 use Rattle.modules_conf.specs.declared.kind.Kind.{Kind}
 use Rattle.modules_conf.specs.declared.kind.Kind.TheVariants.{Table, Iso2022Jp, Recode}
@@ -21,9 +21,13 @@ abbrev pub counts : List (List ℕ) → Bool
 counts [] = false
 counts (w ∷ _) = not (slice_index w 0 == 35)
 
--- The lines of a text that count, in order.
+-- The lines that count among numbered lines, in order.
+abbrev pub rows_among : List (ℕ × List ℕ) → List Row
+rows_among ps = filter (λ row. counts row.1) (map (λ p. (p.0, words p.1)) ps)
+
+-- The lines of a text that count.
 abbrev pub rows : List ℕ → List Row
-rows text = filter (λ row. counts row.1) (map (λ p. (p.0, words p.1)) (numbered_lines text))
+rows text = rows_among (numbered_lines text)
 
 abbrev pub one_map : List (List ℕ) → Option Kind
 one_map (map ∷ []) = Some (Table map)
@@ -33,10 +37,22 @@ abbrev pub two_maps : (List ℕ → List ℕ → Kind) → List (List ℕ) → O
 two_maps make (first ∷ second ∷ []) = Some (make first second)
 two_maps make _ = None
 
-abbrev pub binding_of_kind : ℕ → List ℕ → List (List ℕ) → Option Kind → Result Binding BindFault
-binding_of_kind line name maps None = Err (WordCount line)
-binding_of_kind line name maps (Some kind) =
-    if nat_le (length name) 64 && list_all is_charmap_word maps
+abbrev pub kind_unless : ℕ → Option Kind → Result Kind BindFault
+kind_unless line None = Err (WordCount line)
+kind_unless line (Some kind) = Ok kind
+
+-- The kind that the words behind a name stand for, or what is wrong with them.
+abbrev pub kind_of : ℕ → List ℕ → List (List ℕ) → Result Kind BindFault
+kind_of line kind maps =
+    if bytes_eq kind (codes "table") then kind_unless line (one_map maps)
+    else (if bytes_eq kind (codes "iso2022jp") then kind_unless line (two_maps Iso2022Jp maps)
+    else (if bytes_eq kind (codes "recode") then kind_unless line (two_maps Recode maps)
+    else Err (BadKind line)))
+
+abbrev pub binding_unless : ℕ → List ℕ → Result Kind BindFault → Result Binding BindFault
+binding_unless line name (Err fault) = Err fault
+binding_unless line name (Ok kind) =
+    if nat_le (length name) 64 && names_charmaps kind
     then Ok (record { line = line; name = name; kind = kind })
     else Err (BadWord line)
 
@@ -44,11 +60,7 @@ binding_of_kind line name maps (Some kind) =
 abbrev pub binding_of : ℕ → List (List ℕ) → Result Binding BindFault
 binding_of line [] = Err (WordCount line)
 binding_of line (name ∷ []) = Err (WordCount line)
-binding_of line (name ∷ kind ∷ maps) =
-    if bytes_eq kind (codes "table") then binding_of_kind line name maps (one_map maps)
-    else (if bytes_eq kind (codes "iso2022jp") then binding_of_kind line name maps (two_maps Iso2022Jp maps)
-    else (if bytes_eq kind (codes "recode") then binding_of_kind line name maps (two_maps Recode maps)
-    else Err (BadKind line)))
+binding_of line (name ∷ kind ∷ maps) = binding_unless line name (kind_of line kind maps)
 
 -- The name that a line binds is its first word.
 abbrev pub bound_name : Row → List ℕ
@@ -80,10 +92,10 @@ ok_of (Err _) = None
 abbrev pub bind_lines : List ℕ → List Binding
 bind_lines text = filter_map (λ row. ok_of (binding_of row.0 row.1)) (rows text)
 
-abbrev pub bindings_unless : List ℕ → Option BindFault → Result (List Binding) BindFault
-bindings_unless text (Some fault) = Err fault
-bindings_unless text None = Ok (bind_lines text)
+abbrev pub bindings_unless : Option BindFault → List Binding → Result (List Binding) BindFault
+bindings_unless None bindings = Ok bindings
+bindings_unless (Some fault) bindings = Err fault
 
 -- The bindings that a text stands for, or its first fault.
 abbrev pub bindings_of : List ℕ → Result (List Binding) BindFault
-bindings_of text = bindings_unless text (bind_fault text)
+bindings_of text = bindings_unless (bind_fault text) (bind_lines text)

@@ -1,11 +1,9 @@
 -- What holds of every configuration and of all bindings that were read.
 use Rattle.std.specs.Prelude.{◌≡◌, ◌≢◌, ◌≤◌, Bool, true, ◌&&◌, List, length, map, All, AllPairs}
 use Rattle.std.specs.List.Sorted.{IsStrictlyIncreasing}
-use Rattle.modules_conf.specs.Charmaps.{is_charmap_word}
+use Rattle.modules_conf.specs.Charmaps.{names_charmaps}
 use Rattle.modules_conf.specs.declared.limits.TheConstants.{MOST_BYTES, MOST_COST, MOST_LINES}
 use Rattle.modules_conf.specs.declared.lines.EdgeLine.{EdgeLine}
-use Rattle.modules_conf.specs.declared.kind.Kind.{Kind}
-use Rattle.modules_conf.specs.declared.kind.Kind.TheVariants.{Table, Iso2022Jp, Recode}
 use Rattle.modules_conf.specs.declared.bindings.Binding.{Binding}
 
 -- The module lines of a configuration are within the limits: they rise, and their number and costs are in range.
@@ -14,12 +12,6 @@ pub record IsWithinLimits (edges : List EdgeLine) : Type 0 where
   pub lines : All (λ e. e.line ≤ MOST_BYTES) edges
   pub count : length edges ≤ MOST_LINES
   pub costs : All (λ e. (1 ≤ e.cost) × (e.cost ≤ MOST_COST)) edges
-
--- The words of a kind name charmaps.
-abbrev pub names_charmaps : Kind → Bool
-names_charmaps (Table map) = is_charmap_word map
-names_charmaps (Iso2022Jp roman kanji) = is_charmap_word roman && is_charmap_word kanji
-names_charmaps (Recode first second) = is_charmap_word first && is_charmap_word second
 
 -- Bindings are sound where no name is bound twice and each word names a charmap.
 pub record AreSound (bindings : List Binding) : Type 0 where

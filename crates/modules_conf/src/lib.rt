@@ -2,7 +2,10 @@
 //! text, which says by which charmaps a module reads and writes.
 #![tactic(auto)]
 
+mod binding_reader;
+mod binding_words;
 mod bindings;
+mod charmaps;
 mod conf;
 mod cost;
 mod fault;
@@ -10,10 +13,11 @@ mod kind;
 mod limits;
 mod lines;
 mod modules;
-mod words;
 #[cfg(test)]
 mod tests;
+mod words;
 
+pub use binding_reader::read_bindings;
 pub use bindings::{Binding, Bindings};
 pub use conf::Conf;
 pub use fault::{BindFault, ConfFault};

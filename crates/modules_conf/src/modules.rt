@@ -15,13 +15,9 @@ use text_lines::next_line;
 
 /// Appends a module line, unless it is one too many.
 fn push_edge(edges: &mut EdgeLines, edge: EdgeLine) -> Result<(), ConfFault>
-    ensures ok {
-        OnOk result ((length edges.old < MOST_LINES) × (edges.new ≡ edges.old ++ edge ∷ []))
-    }
-    ensures err {
-        IfErr result (λ fault. fault ≢ ConfFault.Memory
-            → (MOST_LINES ≤ length edges.old) × (fault ≡ ConfFault.TooManyLines edge.line))
-    }
+    ensures ok { OnOk result ((length edges.old < MOST_LINES) × (edges.new ≡ edges.old ++ edge ∷ [])) }
+    ensures err { IfErr result (λ fault. fault ≢ ConfFault.Memory
+        → (MOST_LINES ≤ length edges.old) × (fault ≡ ConfFault.TooManyLines edge.line)) }
 {
     if edges.as_slice().len() >= MOST_LINES {
         return Err(ConfFault::TooManyLines { line: edge.line });
@@ -34,13 +30,9 @@ fn push_edge(edges: &mut EdgeLines, edge: EdgeLine) -> Result<(), ConfFault>
 
 /// Appends an alias line, unless it is one too many.
 fn push_alias(aliases: &mut AliasLines, alias: AliasLine) -> Result<(), ConfFault>
-    ensures ok {
-        OnOk result ((length aliases.old < MOST_LINES) × (aliases.new ≡ aliases.old ++ alias ∷ []))
-    }
-    ensures err {
-        IfErr result (λ fault. fault ≢ ConfFault.Memory
-            → (MOST_LINES ≤ length aliases.old) × (fault ≡ ConfFault.TooManyLines alias.line))
-    }
+    ensures ok { OnOk result ((length aliases.old < MOST_LINES) × (aliases.new ≡ aliases.old ++ alias ∷ [])) }
+    ensures err { IfErr result (λ fault. fault ≢ ConfFault.Memory
+        → (MOST_LINES ≤ length aliases.old) × (fault ≡ ConfFault.TooManyLines alias.line)) }
 {
     if aliases.as_slice().len() >= MOST_LINES {
         return Err(ConfFault::TooManyLines { line: alias.line });
@@ -59,9 +51,7 @@ fn take_line(conf: &mut Conf, number: u32, line: &[u8]) -> Result<(), ConfFault>
     ensures ok { OnOk result (Takes conf.old number line.now conf.new) }
     ensures few { OnOk result (IsFewEnough conf.new) }
     ensures passed { OnOk result (conf.new.passed ≤ number) }
-    ensures err {
-        IfErr result (λ fault. fault ≢ ConfFault.Memory → Refuses conf.old number line.now fault)
-    }
+    ensures err { IfErr result (λ fault. fault ≢ ConfFault.Memory → Refuses conf.old number line.now fault) }
 {
     let words = front_words(line);
     let words = words.as_slice();
@@ -90,11 +80,9 @@ fn take_line(conf: &mut Conf, number: u32, line: &[u8]) -> Result<(), ConfFault>
 /// 16,384 of its kind is refused.
 pub fn read_modules(alloc: Global, text: &[u8]) -> Result<Conf, ConfFault>
     requires { length text.now ≤ MOST_BYTES }
-    ensures value {
-        MatchResult result
-            (λ conf. conf_of text.now ≡ Ok conf)
-            (λ fault. fault ≢ ConfFault.Memory → conf_of text.now ≡ Err fault)
-    }
+    ensures value { MatchResult result
+        (λ conf. conf_of text.now ≡ Ok conf)
+        (λ fault. fault ≢ ConfFault.Memory → conf_of text.now ≡ Err fault) }
     ensures limits { IfOk result (λ conf. IsWithinLimits conf.edges) }
 {
     let mut conf = Conf {

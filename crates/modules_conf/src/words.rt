@@ -33,9 +33,7 @@ fn before_comment(line: &[u8]) -> &[u8]
 pub(crate) fn front_words(line: &[u8]) -> ArrayVec<&[u8], 5>
     requires { length line.now ≤ MOST_BYTES }
     ensures value { map (λ word. word.now) result.items ≡ take 5 (conf_words line.now) }
-    ensures sized {
-        All (λ word. (0 < length word.now) × (length word.now ≤ MOST_BYTES)) result.items
-    }
+    ensures sized { All (λ word. (0 < length word.now) × (length word.now ≤ MOST_BYTES)) result.items }
 {
     first_words::<5>(before_comment(line))
 }

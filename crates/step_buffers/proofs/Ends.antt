@@ -1,15 +1,13 @@
 -- What a session holds, at the end of its stream.
-use Rattle.std.proofs.Common.{◌≡◌, ◌≢◌, ℕ, ◌≤◌, List, [], ◌∷◌, ◌++◌, length, drop, Bool, true, false, refl, ap, sym, ◌∙◌, subst, arith, length-drop}
+use Rattle.std.proofs.Common.{◌≡◌, ◌≢◌, ℕ, ◌≤◌, List, [], ◌∷◌, ◌++◌, length, Bool, true, false, refl, ap, sym, subst, arith, length-drop}
 use Rattle.std.proofs.lemmas.List.{append-nil}
 use Rattle.code_pairs.specs.Tables.{Tables}
-use Rattle.unit_relations.specs.declared.verdict.Verdict.{Verdict}
 use Rattle.unit_relations.specs.declared.verdict.Verdict.TheVariants.{Done, Incomplete, Illegal}
 use Rattle.step_unicode.specs.declared.set.State.TheVariants.{Plain}
 use Rattle.chain_steps.specs.Machine.{Machine}
 use Rattle.chain_steps.specs.Sets.{return_of}
 use Rattle.chain_steps.specs.Chains.{ChainMeans, ChainMeansWhole}
-use Rattle.step_buffers.specs.Held.{Held}
-use Rattle.step_buffers.specs.Stands.{StandsFor, verdict_from}
+use Rattle.step_buffers.specs.Stands.{StandsFor}
 
 -- a session that has stopped
 pub ends_illegal : (ts : Tables) (m : Machine) (output tail : List ℕ) (offset taken : ℕ) (stopped : Bool) (x : List ℕ) → stopped ≡ true →

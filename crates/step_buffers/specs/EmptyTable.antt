@@ -1,7 +1,7 @@
 -- A list of one table, which is empty, as the tests have it.
 use Rattle.std.specs.Prelude.{◌≡◌, ℕ, List, [], ◌∷◌, length}
-use Rattle.std.proofs.Common.{zero, suc, refl, ap, ◌∙◌}
-use Rattle.std.specs.List.{filter_map, list_any, range_with_len}
+use Rattle.std.proofs.Common.{zero, suc, refl, ap}
+use Rattle.std.specs.List.{filter_map, range_with_len}
 use Rattle.std.specs.Option.{unwrap_or}
 use Rattle.std.specs.Prelude.{slice_get}
 use Rattle.code_pairs.specs.Tables.{table_at, IsWellFormed}

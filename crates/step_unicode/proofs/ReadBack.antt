@@ -3,7 +3,6 @@ use Rattle.std.proofs.Common.{◌≡◌, ℕ, ◌+◌, ◌-◌, ◌/◌, ◌%◌
 use Rattle.std.specs.Prelude.{nat_lt, if◌then◌else◌}
 use Rattle.std.specs.List.{flat_map, AllByRecursion}
 use Rattle.std.proofs.lemmas.Bool.{cases_lt, cond_both, ltb-true, ltb-false}
-use Rattle.std.proofs.lemmas.Bool.{false≢true}
 use Rattle.step_unicode.specs.declared.set.Uni.{Uni}
 use Rattle.step_unicode.specs.declared.set.Uni.TheVariants.{Ascii, Utf8, Utf16, Utf16Le, Utf16Be, Ucs4}
 use Rattle.step_unicode.specs.declared.set.State.{State}
@@ -115,8 +114,8 @@ utf16_reads Plain (p ∷ q) is all =
     }
 utf16_reads Little q is all = little_reads q all
 utf16_reads Big q is all = list_reads (IsUnit Utf16) Big (utf16 big_bytes) IsPoint (λ p unit. (p, big_unit p unit, refl, refl)) q all
-utf16_reads Roman q is all = absurd (false≢true is)
-utf16_reads Kanji q is all = absurd (false≢true is)
+utf16_reads Roman q is all = cc
+utf16_reads Kanji q is all = cc
 
 -- a list that a set spells is read as that list, and the states after it are the same
 pub reads_back : (set : Uni) (s : State) (q : List ℕ) → IsStateOf set s → AllByRecursion (IsSpellable set) q →

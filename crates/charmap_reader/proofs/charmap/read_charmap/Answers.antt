@@ -1,7 +1,5 @@
-use Rattle.std.proofs.Common.{◌≡◌, ◌+◌, ◌-◌, ◌∙◌, arith, sym, ap, length, subst}
-use Rattle.text_lines.specs.Lines.{lines}
-use Rattle.charmap_reader.specs.Rows.{rows_of}
-use Rattle.charmap_reader.specs.Scan.{scan, Fails}
+use Rattle.std.proofs.Common.{◌∙◌, arith, sym, subst}
+use Rattle.charmap_reader.specs.Scan.{Fails}
 use Rattle.charmap_reader.proofs.Scans.{length-lines, charmap_read}
 use Rattle.charmap_reader.proofs.charmap.read_charmap.Goals as goal
 
@@ -9,21 +7,25 @@ pub read_header-requires : goal.read_header-requires
 read_header-requires c = omega (arith, length-lines c.args.text.now)
 
 pub read_mapping-requires-clause-count : goal.read_mapping-requires-clause-count
-read_mapping-requires-clause-count c = omega (arith, length-lines c.args.text.now, c.in-Ok.ensures.count)
+read_mapping-requires-clause-count c =
+    omega (arith, length-lines c.args.text.now, c.in-Ok.ensures.count)
 
 pub returns-in-Err-clause-err : goal.returns-in-Err-clause-err
-returns-in-Err-clause-err c = charmap_read c.args.text.now c.if-text-gt16777216.false (sym c.starts_with.ensures.value ∙ c.if-starts_with.false) ∙ c.in-Err.ensures.err
+returns-in-Err-clause-err c =
+    charmap_read c.args.text.now c.if-text-gt16777216.false
+    (sym c.starts_with.ensures.value ∙ c.if-starts_with.false)
+    ∙ c.in-Err.ensures.err
 
 pub returns-in-Err-read_mapping-clause-err : goal.returns-in-Err-read_mapping-clause-err
 returns-in-Err-read_mapping-clause-err c =
-    let header = c.in-Ok.header in
-    let count : header.line + length (lines header.rest.now) - 1 ≡ length (lines c.args.text.now) = omega (arith, c.in-Ok.ensures.count) in
-    let read = charmap_read c.args.text.now c.if-text-gt16777216.false (sym c.starts_with.ensures.value ∙ c.if-starts_with.false) ∙ c.in-Ok.ensures.ok in
-    subst (λ r. Fails c.in-Err-read_mapping.fault r) (ap (λ n. scan header.signs n header.line 0 (rows_of header.rest.now)) count ∙ sym read) c.in-Err-read_mapping.ensures.err
+    let read =
+    charmap_read c.args.text.now c.if-text-gt16777216.false
+    (sym c.starts_with.ensures.value ∙ c.if-starts_with.false)
+    ∙ c.in-Ok.ensures.ok in
+    subst (λ r. Fails c.in-Err-read_mapping.fault r) (sym read) c.in-Err-read_mapping.ensures.err
 
 pub returns-in-Ok-read_mapping-clause-ok : goal.returns-in-Ok-read_mapping-clause-ok
 returns-in-Ok-read_mapping-clause-ok c =
-    let header = c.in-Ok.header in
-    let count : header.line + length (lines header.rest.now) - 1 ≡ length (lines c.args.text.now) = omega (arith, c.in-Ok.ensures.count) in
-    charmap_read c.args.text.now c.if-text-gt16777216.false (sym c.starts_with.ensures.value ∙ c.if-starts_with.false) ∙ c.in-Ok.ensures.ok
-    ∙ ap (λ n. scan header.signs n header.line 0 (rows_of header.rest.now)) (sym count) ∙ c.in-Ok-read_mapping.ensures.ok
+    charmap_read c.args.text.now c.if-text-gt16777216.false
+    (sym c.starts_with.ensures.value ∙ c.if-starts_with.false)
+    ∙ c.in-Ok.ensures.ok ∙ c.in-Ok-read_mapping.ensures.ok

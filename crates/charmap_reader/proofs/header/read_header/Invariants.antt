@@ -1,8 +1,7 @@
 use Rattle.std.proofs.Common.{◌≡◌, ◌+◌, ◌≤◌, length}
 use Rattle.text_lines.specs.Lines.{lines}
 use Rattle.charmap_reader.specs.Rows.{rows_of}
-use Rattle.charmap_reader.specs.Header.{usual_signs}
-use Rattle.charmap_reader.specs.Scan.{scan_header}
+use Rattle.charmap_reader.specs.Scan.{scan_header, scan_text}
 use Rattle.charmap_reader.proofs.header.read_header.Given as goal
 
 abbrev pub decreases-loop-line : goal.decreases-loop-line
@@ -10,7 +9,7 @@ decreases-loop-line l = length l.rest
 
 abbrev pub invariant-loop-line : goal.invariant-loop-line
 invariant-loop-line l = record {
-  told : scan_header l.signs (length (lines l.text)) l.number (rows_of l.rest) ≡ scan_header usual_signs (length (lines l.text)) 1 (rows_of l.text);
+  told : scan_header l.signs (length (lines l.text)) l.number (rows_of l.rest) ≡ scan_text l.text;
   room : l.number + length (lines l.rest) ≡ length (lines l.text) + 1;
   some : 1 ≤ l.number;
 }

@@ -21,9 +21,17 @@ loop-line-preserved c =
     record {
       told = ap (λ xs. onto xs (scan s count (c.loop-line.number + 1) (length xs) later)) more
           ∙ scan_step s count c.loop-line.number ps r later step.0 step.1
-          ∙ ap (λ ls. onto ps (scan s count c.loop-line.number (length ps) (map row_of ls))) (sym c.in-Some.ensures.found) ∙ c.loop-line.invariant.told;
+          ∙ ap (λ ls. onto ps (scan s count c.loop-line.number (length ps) (map row_of ls)))
+          (sym c.in-Some.ensures.found) ∙ c.loop-line.invariant.told;
       room = omega (arith, ap length c.in-Some.ensures.found, c.loop-line.invariant.room);
       some = omega (arith, c.loop-line.invariant.some);
-      few = omega (arith, few_behind (length ps) (row_pairs s r) step.1, ap length more, length-append ps (ok_pairs (row_pairs s r)));
-      points = subst (λ xs. HasPoints xs) (sym more) (HasPoints-append ps (ok_pairs (row_pairs s r)) c.loop-line.invariant.points (HasPoints-row s r));
+      few = omega (
+        arith,
+        few_behind (length ps) (row_pairs s r) step.1,
+        ap length more,
+        length-append ps (ok_pairs (row_pairs s r)),
+      );
+      points = subst (λ xs. HasPoints xs) (sym more)
+          (HasPoints-append ps (ok_pairs (row_pairs s r)) c.loop-line.invariant.points
+          (HasPoints-row s r));
     }

@@ -15,9 +15,16 @@ pub loop-k-preserved : goal.loop-k-preserved
 loop-k-preserved c =
     let old = c.args.pairs.now.items in
     let k = c.loop-k.k in
-    let more : members c.args.point c.args.code (k + 1) ≡ members c.args.point c.args.code k ++ member (c.args.point + k) (big_endian (length c.args.code) (value_of c.args.code + k)) =
-    map-range_with_len_more (λ j. the_member (c.args.point + j) (big_endian (length c.args.code) (value_of c.args.code + j))) 0 k k (omega arith) in
-    c.in_ok-push.ensures.items ∙ ap (λ (q : List ℕ). c.loop-k.pairs.items ++ member (c.args.point + k) q) c.plus.ensures
-    ∙ ap (λ xs. xs ++ member (c.args.point + k) (big_endian (length c.args.code) (value_of c.args.code + k))) c.loop-k.invariant
-    ∙ append_assoc old (members c.args.point c.args.code k) (member (c.args.point + k) (big_endian (length c.args.code) (value_of c.args.code + k)))
+    let more : members c.args.point c.args.code (k + 1)
+    ≡ members c.args.point c.args.code k ++ member (c.args.point + k)
+    (big_endian (length c.args.code) (value_of c.args.code + k)) =
+    map-range_with_len_more
+    (λ j. the_member (c.args.point + j)
+    (big_endian (length c.args.code) (value_of c.args.code + j))) 0 k k (omega arith) in
+    c.in_ok-push.ensures.items
+    ∙ ap (λ (q : List ℕ). c.loop-k.pairs.items ++ member (c.args.point + k) q) c.plus.ensures
+    ∙ ap (λ xs. xs ++ member (c.args.point + k)
+    (big_endian (length c.args.code) (value_of c.args.code + k))) c.loop-k.invariant
+    ∙ append_assoc old (members c.args.point c.args.code k)
+    (member (c.args.point + k) (big_endian (length c.args.code) (value_of c.args.code + k)))
     ∙ ap (λ xs. old ++ xs) (sym more)

@@ -26,6 +26,6 @@ returns-clause-value c =
 pub returns-clause-limits : goal.returns-clause-limits
 returns-clause-limits c =
     let value : conf_of c.args.text.now ≡ Ok c.loop-line.conf =
-      c.loop-line.invariant.value ∙ ap (λ rest. conf_with c.loop-line.conf (enumerate_from (c.loop-line.number + 1) (lines rest))) c.in_default.ensures.found
-      ∙ conf_with-end c.loop-line.conf c.loop-line.invariant.few in
+    c.loop-line.invariant.value ∙ ap (λ rest. conf_with c.loop-line.conf (enumerate_from (c.loop-line.number + 1) (lines rest))) c.in_default.ensures.found
+    ∙ conf_with-end c.loop-line.conf c.loop-line.invariant.few in
     IsWithinLimits-conf_of c.args.text.now c.loop-line.conf value c.requires c.loop-line.invariant.few.edges

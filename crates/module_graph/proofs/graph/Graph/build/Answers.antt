@@ -1,4 +1,4 @@
-use Rattle.module_graph.proofs.Shaping.{drafted_graph, targets_fit, indexed}
+use Rattle.module_graph.proofs.Shaping.{node_ends, drafted_graph, targets_fit, indexed}
 use Rattle.module_graph.proofs.graph.Graph.build.Goals as goal
 
 pub rows_by_target-requires : goal.rows_by_target-requires
@@ -10,6 +10,9 @@ invariant_of-result c = indexed c.args.conf.now.edges c.args.bindings.now c.requ
     (rw (c.as_slice.ensures, c.as_slice-2.ensures) at c.in_ok-draft.ensures.draft) (rw (c.as_slice.ensures, c.as_slice-2.ensures) at c.in_ok-draft.ensures.skipped)
     (rw (c.deref.ensures.value, c.len.ensures.len) at c.in_ok-rows.ensures)
 
-pub returns : goal.returns
-returns c = drafted_graph c.args.conf.now.edges c.args.bindings.now c.in_ok-draft.draft c.in_ok-draft.skipped
+pub returns-clause-value : goal.returns-clause-value
+returns-clause-value c = drafted_graph c.args.conf.now.edges c.args.bindings.now c.in_ok-draft.draft c.in_ok-draft.skipped
     (rw (c.as_slice.ensures, c.as_slice-2.ensures) at c.in_ok-draft.ensures.draft) (rw (c.as_slice.ensures, c.as_slice-2.ensures) at c.in_ok-draft.ensures.skipped)
+
+pub returns-clause-ends : goal.returns-clause-ends
+returns-clause-ends c = λ name. node_ends c.args.conf.now.edges c.args.bindings.now c.in_ok-draft.draft (rw (c.as_slice.ensures, c.as_slice-2.ensures) at c.in_ok-draft.ensures.draft) name

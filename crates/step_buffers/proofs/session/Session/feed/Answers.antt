@@ -2,7 +2,7 @@ use Rattle.std.proofs.Common.{◌≡◌, ◌+◌, ◌++◌, length, drop, true, 
 use Rattle.chain_steps.specs.Chains.{ChainMeans}
 use Rattle.step_buffers.specs.Held.{Held}
 use Rattle.step_buffers.specs.Stands.{StandsFor}
-use Rattle.step_buffers.proofs.Feeds.{IsTaken, stands_stopped, stands_fed, stands_moved}
+use Rattle.step_buffers.proofs.Feeds.{stands_stopped, stands_fed, stands_moved}
 use Rattle.step_buffers.proofs.session.Session.feed.Goals as goal
 
 pub returns-then-self-clause-stands : goal.returns-then-self-clause-stands

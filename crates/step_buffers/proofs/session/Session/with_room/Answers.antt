@@ -1,5 +1,4 @@
-use Rattle.std.proofs.Common.{[], false, subst, sym}
-use Rattle.step_unicode.specs.declared.set.State.TheVariants.{Plain}
+use Rattle.std.proofs.Common.{[]}
 use Rattle.step_buffers.proofs.Feeds.{stands_new, stands_held}
 use Rattle.step_buffers.proofs.session.Session.with_room.Goals as goal
 

@@ -6,7 +6,7 @@ use Rattle.code_pairs.specs.Tables.{HasPoints, IsWellFormed}
 use Rattle.code_table.specs.Faults.{IsTableFault}
 use Rattle.code_table.specs.Images.{code_leaves, point_leaves, page_count, IsImageOf}
 use Rattle.code_table.proofs.BuildLaws.{root_is, count_is, image_is, well_formed_is}
-use Rattle.code_table.proofs.table.CodeTable.of_pairs.Goals as goal
+use Rattle.code_table.proofs.table.CodeTable.build.Goals as goal
 
 pub overflow_cast-root : goal.overflow_cast-root
 overflow_cast-root c =

@@ -1,0 +1,103 @@
+//! Two configurations: one of three lines, and one whose module isn't bound.
+
+use crate::Graph;
+use modules_conf::{Binding, Bindings, Kind, read_modules};
+use names_alias::{Word, normal};
+use std::alloc::{AllocError, Global};
+use std::process::Abort;
+use std::test::Fail;
+
+/// Two ways from SA to SB.
+const THREE_LINES: &[u8] =
+    b"module SA// SB// DIR 3\nmodule SA// INTERNAL TA 1\nmodule INTERNAL SB// TB 1\n";
+
+/// A word that has room.
+fn word(rt: &impl Abort, text: &[u8]) -> Word {
+    Word::new(text).expect(rt, "a word")
+}
+
+/// Binds DIR, TA and TB, and TC to what TA is bound to.
+fn bindings(rt: &impl Abort, alloc: Global) -> Result<Bindings, AllocError> {
+    let mut bindings = Bindings::new(alloc);
+    let both = Kind::Recode {
+        first: word(rt, b"CA"),
+        second: word(rt, b"CB"),
+    };
+    for (line, name, map) in [(2, b"TA", b"CA"), (3, b"TB", b"CB"), (4, b"TC", b"CA")] {
+        bindings.push(Binding {
+            line,
+            name: word(rt, name),
+            kind: Kind::Table { map: word(rt, map) },
+        })?;
+    }
+    bindings.push(Binding {
+        line: 5,
+        name: word(rt, b"DIR"),
+        kind: both,
+    })?;
+    Ok(bindings)
+}
+
+#[test]
+fn numbers_what_three_lines_say(rt: HostRuntime) -> Result<(), Fail> {
+    let conf = read_modules(rt.alloc(), THREE_LINES).expect(&rt, "three lines");
+    let graph = Graph::build(rt.alloc(), &conf, &bindings(&rt, rt.alloc())?)?;
+    assert_eq!(rt;
+        (
+            graph.edges().len(),
+            graph.nodes(),
+            graph.modules(),
+            graph.skipped()
+        ),
+        (15, 9, 3, 0)
+    );
+    for (ordinal, source, target, cost, module) in [
+        (0, 0, 1, 1, None),
+        (1, 1, 0, 1, None),
+        (11, 1, 6, 1, None),
+        (16, 7, 8, 3, Some(0)),
+        (17, 7, 1, 1, Some(1)),
+        (18, 1, 8, 1, Some(2)),
+    ] {
+        let edge = graph.edge(ordinal).expect(&rt, "an edge");
+        assert_eq!(rt;
+            (edge.source, edge.target, edge.cost, edge.module),
+            (source, target, cost, module),
+            "at {ordinal}"
+        );
+    }
+    assert!(rt; graph.edge(12).is_none() && graph.edge(19).is_none());
+    for (text, node) in [
+        (b"ascii".as_slice(), Some(0)),
+        (b"internal", Some(1)),
+        (b"ucs-4", Some(6)),
+        (b"sb", Some(8)),
+        (b"sc", None),
+    ] {
+        let name = normal(text).expect(&rt, "a name");
+        assert_eq!(rt; graph.node_of(&name), node);
+    }
+    Ok(())
+}
+
+#[test]
+fn keeps_kinds_and_passes_lines_over(rt: HostRuntime) -> Result<(), Fail> {
+    let text =
+        b"module SC// INTERNAL TC 1\nmodule SA// INTERNAL TA\nmodule SD// INTERNAL NOPE 1\nmodule UTF-8// SA// DIR\nmodule SA// INTERNAL DIR\nmodule SA// SC// TA\n";
+    let conf = read_modules(rt.alloc(), text).expect(&rt, "six lines");
+    let graph = Graph::build(rt.alloc(), &conf, &bindings(&rt, rt.alloc())?)?;
+    assert_eq!(rt;
+        (graph.edges().len(), graph.modules(), graph.skipped()),
+        (14, 1, 4)
+    );
+    let kind = Kind::Table {
+        map: word(&rt, b"CA"),
+    };
+    if graph.modules() > 0 {
+        assert!(rt; *graph.kind_of(0) == kind);
+    }
+    if graph.nodes() > 1 {
+        assert_eq!(rt; graph.edges_into(1).len(), 8);
+    }
+    Ok(())
+}
