@@ -4,8 +4,8 @@ ghost use Rattle.std.specs.Prelude.{◌≡◌, ◌<◌, ◌≤◌, length};
 
 use crate::{Chain, least};
 use module_graph::Graph;
-use modules_conf::{Binding, Bindings, Kind, MOST_BYTES, read_modules};
-use names_alias::{Word, normal};
+use modules_conf::{MOST_BYTES, read_bindings, read_modules};
+use names_alias::normal;
 use std::alloc::{AllocError, Global};
 use std::marker::Brand;
 use std::process::Abort;
@@ -13,32 +13,15 @@ use std::sync::ledger::{Blank, Ledger};
 use std::test::Fail;
 use work_steps::Steps;
 
-/// A word that has room.
-fn word(rt: &impl Abort, text: &[u8]) -> Word {
-    Word::new(text).expect(rt, "a word")
-}
+/// DIR recodes, TA and TB are tables.
+const BINDINGS: &[u8] = b"DIR recode CA CB\nTA table CA\nTB table CB\n";
 
-/// The graph of a text in which TA and TB are tables, and DIR recodes.
+/// The graph of a text under these bindings.
 fn graph(rt: &impl Abort, alloc: Global, text: &[u8]) -> Result<Graph, AllocError>
     requires { length text.now ≤ MOST_BYTES }
 {
-    let mut bindings = Bindings::new(alloc);
-    bindings.push(Binding {
-        line: 1,
-        name: word(rt, b"DIR"),
-        kind: Kind::Recode {
-            first: word(rt, b"CA"),
-            second: word(rt, b"CB"),
-        },
-    })?;
-    for (line, name, map) in [(2, b"TA", b"CA"), (3, b"TB", b"CB")] {
-        bindings.push(Binding {
-            line,
-            name: word(rt, name),
-            kind: Kind::Table { map: word(rt, map) },
-        })?;
-    }
     let conf = read_modules(alloc, text).expect(rt, "a configuration");
+    let bindings = read_bindings(alloc, BINDINGS).expect(rt, "bindings");
     Graph::build(alloc, &conf, &bindings)
 }
 

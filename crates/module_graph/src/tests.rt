@@ -1,47 +1,30 @@
 //! Two configurations: one of three lines, and one whose module isn't bound.
 
+ghost use Rattle.std.specs.Prelude.{◌≤◌, length};
+
 use crate::Graph;
-use modules_conf::{Binding, Bindings, Kind, read_modules};
+use modules_conf::{Kind, MOST_BYTES, read_bindings, read_modules};
 use names_alias::{Word, normal};
 use std::alloc::{AllocError, Global};
 use std::process::Abort;
 use std::test::Fail;
 
-/// Two ways from SA to SB.
-const THREE_LINES: &[u8] =
-    b"module SA// SB// DIR 3\nmodule SA// INTERNAL TA 1\nmodule INTERNAL SB// TB 1\n";
+/// TC is bound to what TA is bound to.
+const BINDINGS: &[u8] = b"DIR recode CA CB\nTA table CA\nTB table CB\nTC table CA\n";
 
-/// A word that has room.
-fn word(rt: &impl Abort, text: &[u8]) -> Word {
-    Word::new(text).expect(rt, "a word")
-}
-
-/// Binds DIR, TA and TB, and TC to what TA is bound to.
-fn bindings(rt: &impl Abort, alloc: Global) -> Result<Bindings, AllocError> {
-    let mut bindings = Bindings::new(alloc);
-    let both = Kind::Recode {
-        first: word(rt, b"CA"),
-        second: word(rt, b"CB"),
-    };
-    for (line, name, map) in [(2, b"TA", b"CA"), (3, b"TB", b"CB"), (4, b"TC", b"CA")] {
-        bindings.push(Binding {
-            line,
-            name: word(rt, name),
-            kind: Kind::Table { map: word(rt, map) },
-        })?;
-    }
-    bindings.push(Binding {
-        line: 5,
-        name: word(rt, b"DIR"),
-        kind: both,
-    })?;
-    Ok(bindings)
+/// The graph of a text under these bindings.
+fn graph(rt: &impl Abort, alloc: Global, text: &[u8]) -> Result<Graph, AllocError>
+    requires { length text.now ≤ MOST_BYTES }
+{
+    let conf = read_modules(alloc, text).expect(rt, "a configuration");
+    let bindings = read_bindings(alloc, BINDINGS).expect(rt, "bindings");
+    Graph::build(alloc, &conf, &bindings)
 }
 
 #[test]
 fn numbers_what_three_lines_say(rt: HostRuntime) -> Result<(), Fail> {
-    let conf = read_modules(rt.alloc(), THREE_LINES).expect(&rt, "three lines");
-    let graph = Graph::build(rt.alloc(), &conf, &bindings(&rt, rt.alloc())?)?;
+    let text = b"module SA// SB// DIR 3\nmodule SA// INTERNAL TA 1\nmodule INTERNAL SB// TB 1\n";
+    let graph = graph(&rt, rt.alloc(), text)?;
     assert_eq!(rt;
         (
             graph.edges().len(),
@@ -84,14 +67,13 @@ fn numbers_what_three_lines_say(rt: HostRuntime) -> Result<(), Fail> {
 fn keeps_kinds_and_passes_lines_over(rt: HostRuntime) -> Result<(), Fail> {
     let text =
         b"module SC// INTERNAL TC 1\nmodule SA// INTERNAL TA\nmodule SD// INTERNAL NOPE 1\nmodule UTF-8// SA// DIR\nmodule SA// INTERNAL DIR\nmodule SA// SC// TA\n";
-    let conf = read_modules(rt.alloc(), text).expect(&rt, "six lines");
-    let graph = Graph::build(rt.alloc(), &conf, &bindings(&rt, rt.alloc())?)?;
+    let graph = graph(&rt, rt.alloc(), text)?;
     assert_eq!(rt;
         (graph.edges().len(), graph.modules(), graph.skipped()),
         (14, 1, 4)
     );
     let kind = Kind::Table {
-        map: word(&rt, b"CA"),
+        map: Word::new(b"CA").expect(&rt, "a word"),
     };
     if graph.modules() > 0 {
         assert!(rt; *graph.kind_of(0) == kind);

@@ -57,8 +57,15 @@ kept_verdict ts R s rest [] Incomplete end keeps =
     let none : [] ≡ rest = keeps (λ e. cc) in absurd (end.0 (sym none))
 kept_verdict ts R s rest (b ∷ tail) Incomplete end keeps = refl
 
+-- a stream that can't go on is illegal
+pub stops_illegal : (v : Verdict) → stops v ≡ true → v ≡ Illegal
+stops_illegal Illegal e = refl
+stops_illegal Done e = cc
+stops_illegal Full e = cc
+stops_illegal Incomplete e = cc
+
 -- a stream that hasn't stopped isn't illegal
-going_legal : (v : Verdict) → stops v ≡ false → v ≢ Illegal
+pub going_legal : (v : Verdict) → stops v ≡ false → v ≢ Illegal
 going_legal Illegal e = λ f. cc
 going_legal Done e = λ f. cc
 going_legal Full e = λ f. cc

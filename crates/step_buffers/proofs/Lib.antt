@@ -1,3 +1,4 @@
 pub mod Scratch
 pub mod Feeds
 pub mod Ends
+pub mod Bridge

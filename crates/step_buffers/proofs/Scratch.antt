@@ -51,6 +51,13 @@ moved_call us ts Q R s t x room consumed w v s2 t2 same recipe call =
     subst (λ (vs : Tables). ChainConverts vs R s t x room consumed w v s2 t2) same
     (subst (λ (P : Recipe). ChainConverts us P s t x room consumed w v s2 t2) recipe call)
 
+-- a meaning over tables and a recipe that are the same
+pub moved_means : (us ts : Tables) (Q R : Recipe) (s t : State) (x w : List ℕ) (v : Verdict) (at : ℕ) (s2 t2 : State) → us ≡ ts → Q ≡ R →
+    ChainMeans us Q s t x w v at s2 t2 → ChainMeans ts R s t x w v at s2 t2
+moved_means us ts Q R s t x w v at s2 t2 same recipe means =
+    subst (λ (vs : Tables). ChainMeans vs R s t x w v at s2 t2) same
+    (subst (λ (P : Recipe). ChainMeans us P s t x w v at s2 t2) recipe means)
+
 -- how far an input came: its first bytes are carried, and what they are written as stands behind old
 pub record IsMade (ts : Tables) (m n : Machine) (x : List ℕ) (at : ℕ) (old new : List ℕ) (before after : ℕ) : Type 0 where
   pub written : List ℕ

@@ -8,7 +8,7 @@ ghost use Rattle.chain_steps.specs.Chains.{ChainMeans, CanRun};
 ghost use Rattle.chain_steps.specs.Sets.{return_of};
 ghost use Rattle.step_buffers.specs.Stands.{stops};
 
-use crate::limits::{LONGEST_TAIL, ROOM};
+use crate::limits::{BRIDGE, LONGEST_TAIL, ROOM, TAIL_ROOM};
 use crate::through::{Reached, append_within, convert_through};
 use chain_steps::{Converter, Reset, Verdict};
 
@@ -29,6 +29,7 @@ fn drop_front(bytes: &mut Vec<u8>, count: usize)
     requires { count ≤ vec_len bytes.old }
     ensures items { bytes.new.items ≡ drop count bytes.old.items }
     ensures len { vec_len bytes.new + count ≡ vec_len bytes.old }
+    ensures capacity { vec_capacity bytes.old ≤ vec_capacity bytes.new }
 {
     let len = bytes.len();
     bytes.as_mut_slice().copy_within(count..len, 0);
@@ -46,17 +47,18 @@ fn take_piece<C: Converter>(
     requires ready { C.ready converter.old }
     requires range { CanRun (C.tables converter.old) (C.machine converter.old).recipe }
     requires scratch { ROOM ≤ length scratch.old }
-    requires room { vec_len output.old + ROOM * length piece.now ≤ vec_capacity output.old }
+    requires room { vec_len output.old + ROOM * (length piece.now) ≤ vec_capacity output.old }
+    requires tail { TAIL_ROOM ≤ vec_capacity tail.old }
     requires empty { tail.old.items ≡ [] }
-    requires tail { vec_len tail.old + length piece.now ≤ vec_capacity tail.old }
     ensures means { let m = C.machine converter.old in let n = C.machine converter.new in
         (w : List ℕ) × (output.new.items ≡ output.old.items ++ w)
         × ChainMeans (C.tables converter.old) m.recipe m.reading m.writing piece.now
         w result.verdict result.consumed n.reading n.writing }
-    ensures room { vec_len output.new ≤ vec_len output.old + ROOM * length piece.now }
+    ensures room { vec_len output.new ≤ vec_len output.old + ROOM * result.consumed }
     ensures capacity { vec_capacity output.old ≤ vec_capacity output.new }
     ensures rest { result.verdict ≢ Illegal → tail.new.items ≡ drop result.consumed piece.now }
     ensures short { vec_len tail.new ≤ LONGEST_TAIL }
+    ensures tail { TAIL_ROOM ≤ vec_capacity tail.new }
     ensures within { result.consumed + vec_len tail.new ≤ length piece.now }
     ensures recipe { (C.machine converter.new).recipe ≡ (C.machine converter.old).recipe }
     ensures same { C.tables converter.new ≡ C.tables converter.old }
@@ -71,7 +73,7 @@ fn take_piece<C: Converter>(
     reached
 }
 
-/// Takes in a piece behind the bytes that wait, and keeps the rest of both.
+/// Takes in a piece of a few bytes behind those that wait, and keeps the rest of both.
 fn take_joined<C: Converter>(
     converter: &mut C,
     scratch: &mut [u8],
@@ -83,15 +85,18 @@ fn take_joined<C: Converter>(
     requires range { CanRun (C.tables converter.old) (C.machine converter.old).recipe }
     requires scratch { ROOM ≤ length scratch.old }
     requires room { vec_len output.old + ROOM * (vec_len tail.old + length piece.now) ≤ vec_capacity output.old }
-    requires tail { vec_len tail.old + length piece.now ≤ vec_capacity tail.old }
+    requires tail { TAIL_ROOM ≤ vec_capacity tail.old }
+    requires waits { vec_len tail.old ≤ LONGEST_TAIL }
+    requires piece { length piece.now ≤ BRIDGE }
     ensures means { let m = C.machine converter.old in let n = C.machine converter.new in
         (w : List ℕ) × (output.new.items ≡ output.old.items ++ w)
         × ChainMeans (C.tables converter.old) m.recipe m.reading m.writing (tail.old.items ++ piece.now)
         w result.verdict result.consumed n.reading n.writing }
-    ensures room { vec_len output.new ≤ vec_len output.old + ROOM * (vec_len tail.old + length piece.now) }
+    ensures room { vec_len output.new ≤ vec_len output.old + ROOM * result.consumed }
     ensures capacity { vec_capacity output.old ≤ vec_capacity output.new }
     ensures rest { result.verdict ≢ Illegal → tail.new.items ≡ drop result.consumed (tail.old.items ++ piece.now) }
     ensures short { vec_len tail.new ≤ LONGEST_TAIL }
+    ensures tail { TAIL_ROOM ≤ vec_capacity tail.new }
     ensures within { result.consumed + vec_len tail.new ≤ vec_len tail.old + length piece.now }
     ensures recipe { (C.machine converter.new).recipe ≡ (C.machine converter.old).recipe }
     ensures same { C.tables converter.new ≡ C.tables converter.old }
@@ -108,8 +113,59 @@ fn take_joined<C: Converter>(
     reached
 }
 
+/// Takes in a piece of more bytes behind those that wait. Only its first bytes are joined to them: a
+/// unit ends among these, and from there the piece is converted where it stands.
+fn take_bridged<C: Converter>(
+    converter: &mut C,
+    scratch: &mut [u8],
+    output: &mut Vec<u8>,
+    tail: &mut Vec<u8>,
+    piece: &[u8],
+) -> Reached
+    requires ready { C.ready converter.old }
+    requires range { CanRun (C.tables converter.old) (C.machine converter.old).recipe }
+    requires scratch { ROOM ≤ length scratch.old }
+    requires room { vec_len output.old + ROOM * (vec_len tail.old + length piece.now) ≤ vec_capacity output.old }
+    requires tail { TAIL_ROOM ≤ vec_capacity tail.old }
+    requires waits { vec_len tail.old ≤ LONGEST_TAIL }
+    requires piece { BRIDGE ≤ length piece.now }
+    ensures means { let m = C.machine converter.old in let n = C.machine converter.new in
+        (w : List ℕ) × (output.new.items ≡ output.old.items ++ w)
+        × ChainMeans (C.tables converter.old) m.recipe m.reading m.writing (tail.old.items ++ piece.now)
+        w result.verdict result.consumed n.reading n.writing }
+    ensures room { vec_len output.new ≤ vec_len output.old + ROOM * result.consumed }
+    ensures capacity { vec_capacity output.old ≤ vec_capacity output.new }
+    ensures rest { result.verdict ≢ Illegal → tail.new.items ≡ drop result.consumed (tail.old.items ++ piece.now) }
+    ensures short { vec_len tail.new ≤ LONGEST_TAIL }
+    ensures tail { TAIL_ROOM ≤ vec_capacity tail.new }
+    ensures within { result.consumed + vec_len tail.new ≤ vec_len tail.old + length piece.now }
+    ensures recipe { (C.machine converter.new).recipe ≡ (C.machine converter.old).recipe }
+    ensures same { C.tables converter.new ≡ C.tables converter.old }
+    ensures ready { C.ready converter.new }
+    ensures kept { C.kept converter.old converter.new }
+{
+    let waited = tail.len();
+    append_within(tail, &piece[..BRIDGE]);
+    let first = convert_through(converter, tail.as_slice(), scratch, output);
+    tail.clear();
+    if is_stop(first.verdict) {
+        return first;
+    }
+    let rest = take_piece(
+        converter,
+        scratch,
+        output,
+        tail,
+        &piece[first.consumed - waited..],
+    );
+    Reached {
+        consumed: first.consumed + rest.consumed,
+        verdict: rest.verdict,
+    }
+}
+
 /// Takes in a piece: what waits and the piece are converted behind the output, and the rest of both
-/// waits. The room of output and tail was taken before.
+/// waits. The room of the output was taken before.
 pub fn take_in<C: Converter>(
     converter: &mut C,
     scratch: &mut [u8],
@@ -121,15 +177,17 @@ pub fn take_in<C: Converter>(
     requires range { CanRun (C.tables converter.old) (C.machine converter.old).recipe }
     requires scratch { ROOM ≤ length scratch.old }
     requires room { vec_len output.old + ROOM * (vec_len tail.old + length piece.now) ≤ vec_capacity output.old }
-    requires tail { vec_len tail.old + length piece.now ≤ vec_capacity tail.old }
+    requires tail { TAIL_ROOM ≤ vec_capacity tail.old }
+    requires waits { vec_len tail.old ≤ LONGEST_TAIL }
     ensures means { let m = C.machine converter.old in let n = C.machine converter.new in
         (w : List ℕ) × (output.new.items ≡ output.old.items ++ w)
         × ChainMeans (C.tables converter.old) m.recipe m.reading m.writing (tail.old.items ++ piece.now)
         w result.verdict result.consumed n.reading n.writing }
-    ensures room { vec_len output.new ≤ vec_len output.old + ROOM * (vec_len tail.old + length piece.now) }
+    ensures room { vec_len output.new ≤ vec_len output.old + ROOM * result.consumed }
     ensures capacity { vec_capacity output.old ≤ vec_capacity output.new }
     ensures rest { result.verdict ≢ Illegal → tail.new.items ≡ drop result.consumed (tail.old.items ++ piece.now) }
     ensures short { vec_len tail.new ≤ LONGEST_TAIL }
+    ensures tail { TAIL_ROOM ≤ vec_capacity tail.new }
     ensures within { result.consumed + vec_len tail.new ≤ vec_len tail.old + length piece.now }
     ensures recipe { (C.machine converter.new).recipe ≡ (C.machine converter.old).recipe }
     ensures same { C.tables converter.new ≡ C.tables converter.old }
@@ -139,7 +197,10 @@ pub fn take_in<C: Converter>(
     if tail.is_empty() {
         return take_piece(converter, scratch, output, tail, piece);
     }
-    take_joined(converter, scratch, output, tail, piece)
+    if piece.len() <= BRIDGE {
+        return take_joined(converter, scratch, output, tail, piece);
+    }
+    take_bridged(converter, scratch, output, tail, piece)
 }
 
 /// Writes the return sequence behind the output, and puts the converter to its initial states.

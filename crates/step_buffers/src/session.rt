@@ -13,7 +13,7 @@ ghost use Rattle.step_buffers.specs.declared.answers.Fed.TheVariants.{Stopped};
 
 use crate::answers::{Fed, Finish, Whole};
 use crate::feeding::{close, is_stop, take_in};
-use crate::limits::{LONGEST_PIECE, LONGEST_STREAM, LONGEST_TAIL, ROOM, SCRATCH};
+use crate::limits::{LONGEST_PIECE, LONGEST_STREAM, LONGEST_TAIL, ROOM, SCRATCH, TAIL_ROOM};
 use chain_steps::Converter;
 use std::alloc::{AllocError, Global};
 use std::marker::Model;
@@ -69,10 +69,11 @@ impl Session {
             StandsFor ts (record { recipe = R; reading = Plain; writing = Plain }) s []) }
     {
         let output = Vec::with_capacity(alloc, ROOM * input as usize + ROOM)?;
+        let tail = Vec::with_capacity(alloc, TAIL_ROOM)?;
         let scratch = vec![in alloc; 0u8; SCRATCH]?;
         Ok(Session {
             output,
-            tail: Vec::new(alloc),
+            tail,
             scratch,
             offset: 0,
             taken: 0,
@@ -106,9 +107,8 @@ impl Session {
                 offset: self.offset,
             });
         }
-        self.output
-            .reserve(ROOM * (self.tail.len() + piece.len()) + ROOM)?;
-        self.tail.reserve(piece.len())?;
+        let room = ROOM * (self.tail.len() + piece.len()) + ROOM;
+        self.output.reserve(room)?;
         let reached = take_in(
             converter,
             self.scratch.as_mut_slice(),

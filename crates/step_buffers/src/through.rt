@@ -51,7 +51,7 @@ pub fn convert_through<C: Converter>(
         (w : List ℕ) × (output.new.items ≡ output.old.items ++ w)
         × ChainMeans (C.tables converter.old) m.recipe m.reading m.writing input.now
         w result.verdict result.consumed n.reading n.writing }
-    ensures room { vec_len output.new ≤ vec_len output.old + ROOM * length input.now }
+    ensures room { vec_len output.new ≤ vec_len output.old + ROOM * result.consumed }
     ensures capacity { vec_capacity output.old ≤ vec_capacity output.new }
     ensures within { result.consumed ≤ length input.now }
     ensures short { result.verdict ≢ Illegal → length input.now ≤ result.consumed + LONGEST_TAIL }

@@ -1,5 +1,4 @@
-use Rattle.std.proofs.Common.{◌≡◌, ◌+◌, ◌++◌, length, drop, true, refl, subst, sym, ap, ◌∙◌}
-use Rattle.chain_steps.specs.Chains.{ChainMeans}
+use Rattle.std.proofs.Common.{◌≡◌, ◌+◌, ◌++◌, length, true, refl, subst, sym, ap, ◌∙◌}
 use Rattle.step_buffers.specs.Held.{Held}
 use Rattle.step_buffers.specs.Stands.{StandsFor}
 use Rattle.step_buffers.proofs.Feeds.{stands_stopped, stands_fed, stands_moved}
@@ -25,13 +24,12 @@ returns-clause-stands g c = λ x stands.
       stopped = c.is_stop-self-inside.result;
     } in
     let stood : StandsFor ts m h x = subst (λ (z : Held). StandsFor ts m z x) (sym c.self.view_is) stands in
-    let waits = c.in_ok-reserve-2.ensures.items in
     let made = took.ensures.means in
     stands_moved ts _ n k _ (sym took.ensures.same) (stands_fed ts m n h k x c.args.piece.now made.0 took.result.verdict took.result.consumed c.if-self.false stood (record {
-      means = subst (λ z. ChainMeans ts m.recipe m.reading m.writing (z ++ c.args.piece.now) made.0 took.result.verdict took.result.consumed n.reading n.writing) waits made.2;
+      means = made.2;
       recipe = took.ensures.recipe;
       output = made.1 ∙ ap (λ z. z ++ made.0) c.in_ok-reserve.ensures.items;
-      tail = λ legal. took.ensures.rest legal ∙ ap (λ z. drop took.result.consumed (z ++ c.args.piece.now)) waits;
+      tail = took.ensures.rest;
       offset = refl;
       taken = refl;
       stopped = c.is_stop-self-inside.ensures;
