@@ -69,9 +69,7 @@ fn read_three(state: State, input: &[u8]) -> Unit
     if !is_tail(third) {
         return Unit::Illegal;
     }
-    let point = (first as u32 - 0xE0) * 4096
-        + (second as u32 - 0x80) * 64
-        + (third as u32 - 0x80);
+    let point = (first as u32 - 0xE0) * 4096 + (second as u32 - 0x80) * 64 + (third as u32 - 0x80);
     Unit::Got {
         point: Some(point),
         used: 3,
