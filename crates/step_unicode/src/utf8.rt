@@ -1,7 +1,8 @@
 //! UTF-8: Unicode Table 3-7.
 
-ghost use Rattle.std.specs.Prelude.{◌≡◌, ◌<◌, ◌≤◌, ◌↔◌, length, IsTrue};
+ghost use Rattle.std.specs.Prelude.{◌≡◌, ◌<◌, ◌≤◌, ◌↔◌, length, slice_index, IsTrue};
 ghost use Rattle.step_unicode.specs.declared.set.Uni.TheVariants.{Utf8};
+ghost use Rattle.step_unicode.specs.Points.{InRange};
 ghost use Rattle.step_unicode.specs.Utf8.{IsTail, IsSecond};
 ghost use Rattle.step_unicode.specs.Sets.{IsUnit, IsSpellable, spelling};
 ghost use Rattle.step_unicode.specs.Answers.{IsAnswer, IsWrote};
@@ -20,11 +21,99 @@ fn is_tail(byte: u8) -> bool
 fn is_second(first: u8, byte: u8) -> bool
     ensures { IsTrue result ↔ IsSecond first byte }
 {
-    is_tail(byte)
-        && (first != 0xE0 || 0xA0 <= byte)
-        && (first != 0xED || byte <= 0x9F)
-        && (first != 0xF0 || 0x90 <= byte)
-        && (first != 0xF4 || byte <= 0x8F)
+    match first {
+        0xE0 => 0xA0 <= byte && byte <= 0xBF,
+        0xED => 0x80 <= byte && byte <= 0x9F,
+        0xF0 => 0x90 <= byte && byte <= 0xBF,
+        0xF4 => 0x80 <= byte && byte <= 0x8F,
+        _ => is_tail(byte),
+    }
+}
+
+/// Reads two bytes that a byte from C2 to DF begins.
+#[inline(always)]
+fn read_two(state: State, input: &[u8]) -> Unit
+    requires some { 2 ≤ length input.now }
+    requires first { InRange 0xC2 0xDF (slice_index input.now 0) }
+    ensures { IsAnswer (IsUnit Utf8) state input.now result }
+{
+    let first = input[0];
+    let second = input[1];
+    if !is_second(first, second) {
+        return Unit::Illegal;
+    }
+    let point = (first as u32 - 0xC0) * 64 + (second as u32 - 0x80);
+    Unit::Got {
+        point: Some(point),
+        used: 2,
+        state,
+    }
+}
+
+/// Reads three bytes that a byte from E0 to EF begins.
+#[inline(always)]
+fn read_three(state: State, input: &[u8]) -> Unit
+    requires some { 2 ≤ length input.now }
+    requires first { InRange 0xE0 0xEF (slice_index input.now 0) }
+    ensures { IsAnswer (IsUnit Utf8) state input.now result }
+{
+    let first = input[0];
+    let second = input[1];
+    if !is_second(first, second) {
+        return Unit::Illegal;
+    }
+    if input.len() < 3 {
+        return Unit::Incomplete;
+    }
+    let third = input[2];
+    if !is_tail(third) {
+        return Unit::Illegal;
+    }
+    let point = (first as u32 - 0xE0) * 4096
+        + (second as u32 - 0x80) * 64
+        + (third as u32 - 0x80);
+    Unit::Got {
+        point: Some(point),
+        used: 3,
+        state,
+    }
+}
+
+/// Reads four bytes that a byte from F0 to F4 begins.
+#[inline(always)]
+fn read_four(state: State, input: &[u8]) -> Unit
+    requires some { 2 ≤ length input.now }
+    requires first { InRange 0xF0 0xF4 (slice_index input.now 0) }
+    ensures { IsAnswer (IsUnit Utf8) state input.now result }
+{
+    let first = input[0];
+    let second = input[1];
+    if !is_second(first, second) {
+        return Unit::Illegal;
+    }
+    if input.len() < 3 {
+        return Unit::Incomplete;
+    }
+    let third = input[2];
+    if !is_tail(third) {
+        return Unit::Illegal;
+    }
+    if input.len() < 4 {
+        return Unit::Incomplete;
+    }
+    let fourth = input[3];
+    if !is_tail(fourth) {
+        return Unit::Illegal;
+    }
+    let point = (first as u32 - 0xF0) * 262144
+        + (second as u32 - 0x80) * 4096
+        + (third as u32 - 0x80) * 64
+        + (fourth as u32 - 0x80);
+    Unit::Got {
+        point: Some(point),
+        used: 4,
+        state,
+    }
 }
 
 /// Reads the unit at the front of `input`.
@@ -47,51 +136,13 @@ pub fn read(state: State, input: &[u8]) -> Unit
     if input.len() < 2 {
         return Unit::Incomplete;
     }
-    let second = input[1];
-    if !is_second(first, second) {
-        return Unit::Illegal;
-    }
     if first < 0xE0 {
-        let point = (first as u32 - 0xC0) * 64 + (second as u32 - 0x80);
-        return Unit::Got {
-            point: Some(point),
-            used: 2,
-            state,
-        };
-    }
-    if input.len() < 3 {
-        return Unit::Incomplete;
-    }
-    let third = input[2];
-    if !is_tail(third) {
-        return Unit::Illegal;
+        return read_two(state, input);
     }
     if first < 0xF0 {
-        let point = (first as u32 - 0xE0) * 4096
-            + (second as u32 - 0x80) * 64
-            + (third as u32 - 0x80);
-        return Unit::Got {
-            point: Some(point),
-            used: 3,
-            state,
-        };
+        return read_three(state, input);
     }
-    if input.len() < 4 {
-        return Unit::Incomplete;
-    }
-    let fourth = input[3];
-    if !is_tail(fourth) {
-        return Unit::Illegal;
-    }
-    let point = (first as u32 - 0xF0) * 262144
-        + (second as u32 - 0x80) * 4096
-        + (third as u32 - 0x80) * 64
-        + (fourth as u32 - 0x80);
-    Unit::Got {
-        point: Some(point),
-        used: 4,
-        state,
-    }
+    read_four(state, input)
 }
 
 /// Writes a point behind the first `at` bytes of `output`.

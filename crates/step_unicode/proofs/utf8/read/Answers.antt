@@ -1,18 +1,8 @@
-use Rattle.std.proofs.Common.{arith, refl, Some, rules}
-use Rattle.step_unicode.proofs.Utf8Fronts.{GoesOn, one, two, three}
+use Rattle.std.proofs.Common.{arith, refl, Some}
+use Rattle.step_unicode.proofs.Utf8Fronts.{GoesOn, one}
 use Rattle.step_unicode.proofs.utf8.read.Goals as goal
 
 pub returns-then-input-lt2 : goal.returns-then-input-lt2
 returns-then-input-lt2 c =
     let on : GoesOn c.args.input.now = one c.args.input.now (omega arith) (omega arith) (omega arith, omega arith) in
-    (on.more, Some on.point, c.args.state, on.some, (on.point, on.unit, refl, refl))
-
-pub returns-then-input-lt3 : goal.returns-then-input-lt3
-returns-then-input-lt3 c =
-    let on : GoesOn c.args.input.now = two c.args.input.now (omega arith) (omega arith) (omega arith, omega arith) (search rules) in
-    (on.more, Some on.point, c.args.state, on.some, (on.point, on.unit, refl, refl))
-
-pub returns-then-input-lt4 : goal.returns-then-input-lt4
-returns-then-input-lt4 c =
-    let on : GoesOn c.args.input.now = three c.args.input.now (omega arith) (omega arith) (omega arith, omega arith) (search rules) (search rules) in
     (on.more, Some on.point, c.args.state, on.some, (on.point, on.unit, refl, refl))
