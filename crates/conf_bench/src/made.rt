@@ -1,5 +1,7 @@
 //! Texts of module lines that are made.
 
+ghost use Rattle.std.specs.Prelude.{◌<◌, ◌^◌};
+
 use std::alloc::{AllocError, Global};
 
 /// Appends a module line.
@@ -22,7 +24,7 @@ pub fn ring(alloc: Global, lines: u32, nodes: u32) -> Result<Vec<u8>, AllocError
     let mut text = Vec::new(alloc);
     for line in 0..lines {
         let source = line % nodes;
-        let step = 1 + line / nodes * 13;
+        let step = (line / nodes).wrapping_mul(13).wrapping_add(1);
         let target = source.wrapping_add(step) % nodes;
         push_line(alloc, &mut text, source, target, 1 + line % 7)?;
     }

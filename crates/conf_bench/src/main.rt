@@ -10,6 +10,8 @@
 //! searches go between nodes all over the graph. What is printed are counts, no times.
 #![tactic(auto)]
 
+ghost use Rattle.std.specs.Prelude.{◌≤◌, IfOk};
+
 mod bind;
 mod made;
 mod measure;
@@ -25,7 +27,9 @@ use std::sync::ledger::Blank;
 use std::{env, fs};
 
 /// A number of the command line, up to a limit.
-fn number(word: &str, most: u32) -> Result<u32> {
+fn number(word: &str, most: u32) -> Result<u32>
+    ensures { IfOk result (λ number. number ≤ most) }
+{
     let number = word
         .parse::<u32>()
         .context(format_args!("{word:?} is no number"))?;

@@ -1,5 +1,6 @@
 //! The reader, the graph and the search, one after another.
-ghost use Rattle.std.specs.Prelude.{◌≡◌, ◌<◌, ◌≤◌, length};
+ghost use Rattle.std.specs.Prelude.{◌≡◌, ◌+◌, ◌*◌, ◌<◌, ◌≤◌, length, IfOk};
+ghost use Rattle.conf_bench.specs.Counts.{CountsLines};
 
 use crate::bind::bindings_for;
 use crate::report::Report;
@@ -17,7 +18,10 @@ fn searched<L: Ledger>(
     graph: &Graph,
     searches: u32,
     steps: &mut Steps<L>,
-) -> Result<(u32, usize), AllocError> {
+) -> Result<(u32, usize), AllocError>
+    ensures found { IfOk result (λ r. r.0 ≤ searches) }
+    ensures steps { steps.new ≤ steps.old + searches * length graph.now.edges }
+{
     let nodes = graph.nodes();
     let mut found = 0;
     let mut longest = 0;
@@ -46,6 +50,7 @@ pub fn measure<L: Ledger>(
     requires parts { ledger.parts ≡ L.parts }
     requires some { 0 < ledger.parts }
     requires text { length text.now ≤ MOST_BYTES }
+    ensures { IfOk result (CountsLines text.now) }
 {
     let mut steps: Steps<L> = Steps::new(ledger);
     let conf = match read_modules(alloc, text) {

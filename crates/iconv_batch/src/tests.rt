@@ -1,13 +1,9 @@
-//! The program over files in memory, and streams in every cut.
+//! The program over files in memory.
 
 use crate::run::{Cause, run};
 use batch_outside::{ShelfFiles, ShelfSink};
-use chain_steps::{Bound, Joints, Recipe, Runner, Set};
-use code_table::Owned;
 use std::alloc::{AllocError, Global};
 use std::test::Fail;
-use step_buffers::{Session, Whole};
-use step_unicode::Uni;
 
 const USAGE: &str =
     "usage: iconv_batch --modules F --bindings F --charmaps DIR --jobs JOBS [--workers N] [--pages P] [--journal F]\n";
@@ -193,82 +189,5 @@ fn faults_and_usage_are_told(rt: HostRuntime) -> Result<(), Fail> {
     let ended = run(&rt, words.as_slice(), &mut files, &mut out);
     assert!(&rt; ended.status == 5);
     assert!(&rt; ended.cause != Cause::Memory);
-    Ok(())
-}
-
-/// The conversion of a stream in two pieces and then in single bytes: `at` bytes, `more` bytes, and
-/// the rest one by one.
-fn fed(
-    alloc: Global,
-    from: Uni,
-    to: Uni,
-    input: &[u8],
-    at: usize,
-    singly: bool,
-) -> Result<Whole, AllocError> {
-    let mut runner = Runner::new(Recipe {
-        reader: Set::Unicode(from),
-        joints: Joints::none(alloc),
-        writer: Set::Unicode(to),
-    });
-    let mut tables = Owned {
-        tables: Vec::new(alloc),
-    };
-    let mut converter = Bound {
-        runner: &mut runner,
-        tables: &mut tables,
-    };
-    let mut session = Session::new(alloc)?;
-    let front = at.min(input.len()).min(64);
-    session.feed(&mut converter, &input[..front])?;
-    let rest = &input[front..];
-    if singly {
-        for k in 0..rest.len().min(64) {
-            session.feed(&mut converter, &rest[k..k + 1])?;
-        }
-    } else {
-        session.feed(&mut converter, &rest[..rest.len().min(64)])?;
-    }
-    Ok(session.finish(&mut converter))
-}
-
-#[test]
-fn every_cut_is_the_same(rt: HostRuntime) -> Result<(), Fail> {
-    let alloc = rt.alloc();
-    let sets = [
-        Uni::Ascii,
-        Uni::Utf8,
-        Uni::Utf16,
-        Uni::Utf16Le,
-        Uni::Utf16Be,
-        Uni::Ucs4,
-    ];
-    let inputs = [
-        b"".as_slice(),
-        b"A",
-        b"plain",
-        b"\xC3\xA9\xE2\x82\xAC\xF0\x9F\x98\x80",
-        b"A\xC0\x80",
-        b"\xED\xA0\x80",
-        b"A\xE2\x82",
-        b"\xFF\xFE\x41\x00\x3D\xD8\x00\xDE",
-        b"\xFE\xFF\x00\x41\xD8\x3D\xDE\x00",
-        b"\x3D\xD8\x41\x00",
-        b"\x00\x00\x00\x41\x00\x01\xF6\x00",
-        b"\x00\x11\x00\x00",
-    ];
-    for from in sets {
-        for to in sets {
-            for input in inputs {
-                let one = fed(alloc, from, to, input, 64, false)?;
-                let many = fed(alloc, from, to, input, 0, true)?;
-                assert!(&rt; one.bytes == many.bytes && one.finish == many.finish);
-                for at in 1..input.len() {
-                    let two = fed(alloc, from, to, input, at, false)?;
-                    assert!(&rt; one.bytes == two.bytes && one.finish == two.finish);
-                }
-            }
-        }
-    }
     Ok(())
 }

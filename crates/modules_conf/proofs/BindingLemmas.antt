@@ -1,6 +1,6 @@
 -- One more line of a bindings text.
-use Rattle.std.proofs.Common.{◌≡◌, ℕ, ◌<◌, ◌≤◌, Bool, true, false, cond, List, [], ◌∷◌, ◌++◌, length, take, map, filter, Option, Some, None, Result, Ok, Err, refl, sym, ap, ◌∙◌, arith}
-use Rattle.std.specs.Prelude.{nat_le, slice_index_or, ◌&&◌, ◌||◌}
+use Rattle.std.proofs.Common.{◌≡◌, ℕ, ◌<◌, Bool, true, false, cond, List, [], ◌∷◌, ◌++◌, length, take, map, filter, Result, Ok, Err, refl, sym, ap, ◌∙◌}
+use Rattle.std.specs.Prelude.{nat_le, ◌&&◌, ◌||◌}
 use Rattle.std.specs.List.{list_any}
 use Rattle.std.specs.Str.{bytes_eq}
 use Rattle.std.proofs.lemmas.Bool.{lt-leb}
@@ -12,7 +12,7 @@ use Rattle.modules_conf.specs.declared.limits.TheConstants.{MOST_LINES}
 use Rattle.modules_conf.specs.declared.kind.Kind.{Kind}
 use Rattle.modules_conf.specs.declared.bindings.Binding.{Binding}
 use Rattle.modules_conf.specs.declared.fault.BindFault.{BindFault}
-use Rattle.modules_conf.specs.declared.fault.BindFault.TheVariants.{Twice, TooMany, BadWord}
+use Rattle.modules_conf.specs.declared.fault.BindFault.TheVariants.{Twice, BadWord}
 
 kept_name : (t : Bool) (line : ℕ) (name : List ℕ) (kind : Kind) (fault : BindFault) (b : Binding)
     → cond t (Ok (record { line = line; name = name; kind = kind })) (Err fault) ≡ Ok b → b.name ≡ name

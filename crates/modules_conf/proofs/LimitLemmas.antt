@@ -1,21 +1,20 @@
 -- The module lines of a text are within the limits.
-use Rattle.std.proofs.Common.{◌≡◌, ℕ, zero, suc, ◌+◌, ◌<◌, ◌≤◌, Bool, true, false, cond, List, [], ◌∷◌, length, get_or, map, Option, Some, None, Result, Ok, Err, refl, sym, ap, subst, ◌∙◌, arith, add-one}
+use Rattle.std.proofs.Common.{◌≡◌, ℕ, zero, suc, ◌+◌, ◌<◌, ◌≤◌, Bool, true, false, cond, List, [], ◌∷◌, length, get_or, map, Option, Some, None, Ok, refl, sym, ap, subst, arith, add-one}
 use Rattle.std.specs.Prelude.{All, codes, nat_le, unwrap_or, ◌&&◌}
-use Rattle.std.specs.List.{enumerate_from, filter_map, cons_option, list_all}
+use Rattle.std.specs.List.{enumerate_from, cons_option, list_all}
 use Rattle.std.specs.List.Sorted.{IsStrictlyIncreasing}
 use Rattle.std.specs.Str.{bytes_eq}
 use Rattle.std.proofs.lemmas.List.Elements.{All-nil, All-cons, All-weaker, All-map}
 use Rattle.std.proofs.lemmas.Bool.{leb-true}
-use Rattle.text_lines.specs.Lines.{lines, numbered_lines}
+use Rattle.text_lines.specs.Lines.{lines}
 use Rattle.text_lines.proofs.LineLemmas.{length-lines}
 use Rattle.names_alias.specs.NameForm.{normal_of}
-use Rattle.modules_conf.specs.Cost.{is_digit, decimal, cost_number, cost_of}
+use Rattle.modules_conf.specs.Cost.{is_digit, decimal, cost_of}
 use Rattle.modules_conf.specs.Modules.{conf_words, both, edge_between, edge_line, edges_among, edge_lines, alias_lines, passed_lines, line_too_many, conf_unless, conf_of}
 use Rattle.modules_conf.specs.Limits.{IsWithinLimits}
 use Rattle.modules_conf.specs.declared.limits.TheConstants.{MOST_BYTES, MOST_COST, MOST_LINES}
 use Rattle.modules_conf.specs.declared.lines.EdgeLine.{EdgeLine}
 use Rattle.modules_conf.specs.declared.conf.Conf.{Conf}
-use Rattle.modules_conf.specs.declared.fault.ConfFault.{ConfFault}
 use Rattle.modules_conf.proofs.LineLemmas.{line-edge_line}
 
 All-cons_option : {X : Type 0} (P : X → Type 0) (o : Option X) (xs : List X) → ((x : X) → o ≡ Some x → P x) → All P xs → All P (cons_option o xs)

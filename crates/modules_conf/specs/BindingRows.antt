@@ -14,6 +14,7 @@ use Rattle.modules_conf.specs.declared.fault.BindFault.TheVariants.{Twice, TooMa
 abbrev pub is_name_of : List Binding → List ℕ → Bool
 is_name_of done name = list_any (λ b. bytes_eq name b.name) done
 
+-- The bindings with one more, unless its name is bound already.
 abbrev pub unless_twice : List Binding → ℕ → Bool → Result Binding BindFault → Result (List Binding) BindFault
 unless_twice done line twice (Ok b) = if twice then Err (Twice line) else Ok (done ++ b ∷ [])
 unless_twice done line twice (Err fault) = Err fault
@@ -24,7 +25,9 @@ with_row done row =
     if nat_le MOST_LINES (length done) then Err (TooMany row.0)
     else unless_twice done row.0 (is_name_of done (bound_name row)) (binding_of row.0 row.1)
 
-abbrev pub continued : Result (List Binding) BindFault → (List Binding → Result (List Binding) BindFault) → Result (List Binding) BindFault
+-- What follows bindings, unless there is a fault.
+abbrev pub continued : Result (List Binding) BindFault → (List Binding → Result (List Binding) BindFault)
+    → Result (List Binding) BindFault
 continued (Ok done) rest = rest done
 continued (Err fault) rest = Err fault
 
@@ -35,11 +38,13 @@ with_rows (row ∷ rest) done = continued (with_row done row) (with_rows rest)
 
 -- The line takes the bindings from old to new, whatever lines follow.
 abbrev pub Binds : List Binding → ℕ → List ℕ → List Binding → Type 0
-Binds old number line new = (ps : List (ℕ × List ℕ)) → with_rows (rows_among ((number, line) ∷ ps)) old ≡ with_rows (rows_among ps) new
+Binds old number line new =
+    (ps : List (ℕ × List ℕ)) → with_rows (rows_among ((number, line) ∷ ps)) old ≡ with_rows (rows_among ps) new
 
 -- The line is refused, whatever lines follow.
 abbrev pub RefusesRow : List Binding → ℕ → List ℕ → BindFault → Type 0
-RefusesRow old number line fault = (ps : List (ℕ × List ℕ)) → with_rows (rows_among ((number, line) ∷ ps)) old ≡ Err fault
+RefusesRow old number line fault =
+    (ps : List (ℕ × List ℕ)) → with_rows (rows_among ((number, line) ∷ ps)) old ≡ Err fault
 
 -- A kind whose words name charmaps.
 abbrev pub checked_kind : Result Kind BindFault → Result (Option Kind) BindFault

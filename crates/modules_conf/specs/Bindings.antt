@@ -1,6 +1,6 @@
 -- What a bindings text stands for.
 use Rattle.std.specs.Prelude.{ℕ, Bool, false, ◌&&◌, not, ◌==◌, if◌then◌else◌, nat_le, List, [], ◌∷◌, length, take, map, filter, Option, Some, None, Result, Ok, Err, codes, slice_get, slice_index, slice_index_or}
-use Rattle.std.specs.List.{list_all, list_any, filter_map, enumerate_from}
+use Rattle.std.specs.List.{list_any, filter_map, enumerate_from}
 use Rattle.std.specs.Str.{bytes_eq}
 use Rattle.text_lines.specs.Lines.{numbered_lines}
 use Rattle.text_lines.specs.Words.{words}
@@ -29,14 +29,17 @@ rows_among ps = filter (λ row. counts row.1) (map (λ p. (p.0, words p.1)) ps)
 abbrev pub rows : List ℕ → List Row
 rows text = rows_among (numbered_lines text)
 
+-- The kind of one charmap word.
 abbrev pub one_map : List (List ℕ) → Option Kind
 one_map (map ∷ []) = Some (Table map)
 one_map _ = None
 
+-- The kind of two charmap words.
 abbrev pub two_maps : (List ℕ → List ℕ → Kind) → List (List ℕ) → Option Kind
 two_maps make (first ∷ second ∷ []) = Some (make first second)
 two_maps make _ = None
 
+-- The kind, or that the line has a wrong number of words.
 abbrev pub kind_unless : ℕ → Option Kind → Result Kind BindFault
 kind_unless line None = Err (WordCount line)
 kind_unless line (Some kind) = Ok kind
@@ -49,6 +52,7 @@ kind_of line kind maps =
     else (if bytes_eq kind (codes "recode") then kind_unless line (two_maps Recode maps)
     else Err (BadKind line)))
 
+-- The binding of a name, where the name has at most 64 bytes and the words name charmaps.
 abbrev pub binding_unless : ℕ → List ℕ → Result Kind BindFault → Result Binding BindFault
 binding_unless line name (Err fault) = Err fault
 binding_unless line name (Ok kind) =
@@ -70,11 +74,13 @@ bound_name row = slice_index_or row.1 0 []
 abbrev pub is_bound : List Row → List ℕ → Bool
 is_bound earlier name = list_any (λ row. bytes_eq name (bound_name row)) earlier
 
+-- The fault of a line alone, else that its name is bound already.
 abbrev pub fault_unless : ℕ → Bool → Result Binding BindFault → Option BindFault
 fault_unless line twice (Ok _) = if twice then Some (Twice line) else None
 fault_unless line twice (Err fault) = Some fault
 
--- The fault of the line at a place among those that count: that it is one too many, else its own, else that its name is bound.
+-- The fault of the line at a place among those that count: that it is one too many, else its own,
+-- else that an earlier line binds its name.
 abbrev pub fault_at : List Row → ℕ → Row → Option BindFault
 fault_at all place row =
     if nat_le MOST_LINES place then Some (TooMany row.0)
@@ -82,8 +88,10 @@ fault_at all place row =
 
 -- The fault of the first faulty line of a text.
 abbrev pub bind_fault : List ℕ → Option BindFault
-bind_fault text = slice_get (filter_map (λ p. fault_at (rows text) p.0 p.1) (enumerate_from 0 (rows text))) 0
+bind_fault text =
+    slice_get (filter_map (λ p. fault_at (rows text) p.0 p.1) (enumerate_from 0 (rows text))) 0
 
+-- The binding, if there is one.
 abbrev pub ok_of : Result Binding BindFault → Option Binding
 ok_of (Ok b) = Some b
 ok_of (Err _) = None
@@ -92,6 +100,7 @@ ok_of (Err _) = None
 abbrev pub bind_lines : List ℕ → List Binding
 bind_lines text = filter_map (λ row. ok_of (binding_of row.0 row.1)) (rows text)
 
+-- Bindings, unless there is a fault.
 abbrev pub bindings_unless : Option BindFault → List Binding → Result (List Binding) BindFault
 bindings_unless None bindings = Ok bindings
 bindings_unless (Some fault) bindings = Err fault

@@ -13,7 +13,9 @@ decimal digits = fold (λ n d. 10 * n + (d - 48)) 0 digits
 
 -- A word is a cost where it has digits alone and its number is in range.
 abbrev pub cost_number : List ℕ → Option ℕ
-cost_number w = if list_all is_digit w && nat_le 1 (decimal w) && nat_le (decimal w) MOST_COST then Some (decimal w) else None
+cost_number w =
+    if list_all is_digit w && nat_le 1 (decimal w) && nat_le (decimal w) MOST_COST
+    then Some (decimal w) else None
 
 -- The cost of a line is the first word behind the module's, where that is a cost, and else 1.
 abbrev pub cost_of : List (List ℕ) → ℕ

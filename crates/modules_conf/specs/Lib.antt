@@ -5,3 +5,4 @@ pub mod Bindings
 pub mod BindingRows
 pub mod Limits
 pub mod Reading
+pub mod Resolution

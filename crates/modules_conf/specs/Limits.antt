@@ -1,12 +1,12 @@
 -- What holds of every configuration and of all bindings that were read.
-use Rattle.std.specs.Prelude.{◌≡◌, ◌≢◌, ◌≤◌, Bool, true, ◌&&◌, List, length, map, All, AllPairs}
+use Rattle.std.specs.Prelude.{◌≡◌, ◌≢◌, ◌≤◌, true, List, length, map, All, AllPairs}
 use Rattle.std.specs.List.Sorted.{IsStrictlyIncreasing}
 use Rattle.modules_conf.specs.Charmaps.{names_charmaps}
 use Rattle.modules_conf.specs.declared.limits.TheConstants.{MOST_BYTES, MOST_COST, MOST_LINES}
 use Rattle.modules_conf.specs.declared.lines.EdgeLine.{EdgeLine}
 use Rattle.modules_conf.specs.declared.bindings.Binding.{Binding}
 
--- The module lines of a configuration are within the limits: they rise, and their number and costs are in range.
+-- Module lines are within the limits where their lines rise and their number and costs are in range.
 pub record IsWithinLimits (edges : List EdgeLine) : Type 0 where
   pub rising : IsStrictlyIncreasing (map (λ e. e.line) edges)
   pub lines : All (λ e. e.line ≤ MOST_BYTES) edges

@@ -24,6 +24,7 @@ both (Ok a) (Ok b) = Some (a, b)
 both (Ok a) (Err _) = None
 both (Err _) _ = None
 
+-- The module line between two names, where they are there and its module has at most 64 bytes.
 abbrev pub edge_between : ℕ → List ℕ → List (List ℕ) → Option (List ℕ × List ℕ) → Option EdgeLine
 edge_between line bound more None = None
 edge_between line bound more (Some ends) =
@@ -31,12 +32,15 @@ edge_between line bound more (Some ends) =
     then Some (record { line = line; source = ends.0; target = ends.1; «module» = bound; cost = cost_of more })
     else None
 
--- Words are a module line where they are `module`, two names, a module of at most 64 bytes and anything.
+-- Words are a module line where they are `module`, two names, a module of at most 64 bytes and
+-- anything.
 abbrev pub edge_line : ℕ → List (List ℕ) → Option EdgeLine
 edge_line line (key ∷ source ∷ target ∷ bound ∷ more) =
-    if bytes_eq key (codes "module") then edge_between line bound more (both (normal_of source) (normal_of target)) else None
+    if bytes_eq key (codes "module")
+    then edge_between line bound more (both (normal_of source) (normal_of target)) else None
 edge_line line _ = None
 
+-- The alias line between two names, where they are there.
 abbrev pub alias_between : ℕ → Option (List ℕ × List ℕ) → Option AliasLine
 alias_between line None = None
 alias_between line (Some ends) = Some (record { line = line; alias = ends.0; original = ends.1 })
@@ -44,7 +48,8 @@ alias_between line (Some ends) = Some (record { line = line; alias = ends.0; ori
 -- Words are an alias line where they are `alias`, two names and anything.
 abbrev pub alias_line : ℕ → List (List ℕ) → Option AliasLine
 alias_line line (key ∷ alias ∷ original ∷ _) =
-    if bytes_eq key (codes "alias") then alias_between line (both (normal_of alias) (normal_of original)) else None
+    if bytes_eq key (codes "alias")
+    then alias_between line (both (normal_of alias) (normal_of original)) else None
 alias_line line _ = None
 
 -- The module lines among numbered lines, in order.
@@ -57,7 +62,8 @@ aliases_among ps = filter_map (λ p. alias_line p.0 (conf_words p.1)) ps
 
 -- Words are passed over where there are some, and they are neither a module line nor an alias line.
 abbrev pub is_passed : ℕ → List (List ℕ) → Bool
-is_passed line ws = nat_lt 0 (length ws) && not (is_some (edge_line line ws)) && not (is_some (alias_line line ws))
+is_passed line ws =
+    nat_lt 0 (length ws) && not (is_some (edge_line line ws)) && not (is_some (alias_line line ws))
 
 -- How many of the numbered lines are passed over.
 abbrev pub passed_among : List (ℕ × List ℕ) → ℕ
@@ -84,8 +90,10 @@ least_of (Some a) (Some b) = Some (min a b)
 -- The line of the first module line or alias line that is one more than the limit.
 abbrev pub line_too_many : Conf → Option ℕ
 line_too_many conf =
-    least_of (option_map (λ e. e.line) (slice_get conf.edges MOST_LINES)) (option_map (λ a. a.line) (slice_get conf.aliases MOST_LINES))
+    least_of (option_map (λ e. e.line) (slice_get conf.edges MOST_LINES))
+    (option_map (λ a. a.line) (slice_get conf.aliases MOST_LINES))
 
+-- A configuration, or the refusal of a line.
 abbrev pub conf_unless : Option ℕ → Conf → Result Conf ConfFault
 conf_unless None conf = Ok conf
 conf_unless (Some line) conf = Err (TooManyLines line)
@@ -96,4 +104,5 @@ checked_conf conf = conf_unless (line_too_many conf) conf
 
 -- The configuration that a text stands for, unless a line is one too many.
 abbrev pub conf_of : List ℕ → Result Conf ConfFault
-conf_of text = checked_conf (record { edges = edge_lines text; aliases = alias_lines text; passed = passed_lines text })
+conf_of text =
+    checked_conf (record { edges = edge_lines text; aliases = alias_lines text; passed = passed_lines text })

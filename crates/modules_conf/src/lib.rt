@@ -13,6 +13,7 @@ mod kind;
 mod limits;
 mod lines;
 mod modules;
+mod resolution;
 #[cfg(test)]
 mod tests;
 mod words;
@@ -25,3 +26,4 @@ pub use kind::Kind;
 pub use limits::{MOST_BYTES, MOST_COST, MOST_LINES};
 pub use lines::{AliasLine, AliasLines, EdgeLine, EdgeLines};
 pub use modules::read_modules;
+pub use resolution::aliases_of;

@@ -3,7 +3,7 @@
 ghost use Rattle.std.specs.Prelude.{◌≤◌, length};
 ghost use Rattle.modules_conf.specs.declared.limits.TheConstants.{MOST_BYTES};
 
-use crate::{BindFault, ConfFault, Kind, read_bindings, read_modules};
+use crate::{BindFault, ConfFault, Kind, aliases_of, read_bindings, read_modules};
 use std::alloc::{AllocError, Global};
 use std::test::Fail;
 
@@ -39,6 +39,28 @@ fn reads_lines_as_they_are_shipped(rt: HostRuntime) -> Result<(), Fail> {
             assert_eq!(rt; aliases[1].line, 5);
             assert!(rt; aliases[1].alias.as_bytes() == b"LATIN1//".as_slice());
             assert!(rt; aliases[1].original.as_bytes() == b"ISO-8859-1//".as_slice());
+        }
+    }
+    Ok(())
+}
+
+#[test]
+fn resolves_by_the_lines(rt: HostRuntime) -> Result<(), Fail> {
+    let text = b"alias X Y\nalias X Z\nalias S Y\nmodule S T M".as_slice();
+    match read_modules(rt.alloc(), text) {
+        Err(fault) => assert!(rt; false, "{fault:?}"),
+        Ok(conf) => {
+            let aliases = aliases_of(rt.alloc(), &conf)?;
+            for (text, want) in [
+                (b"x".as_slice(), b"Y//".as_slice()),
+                (b"s", b"S//"),
+                (b"utf8", b"UTF-8//"),
+            ] {
+                match aliases.caller_name(text) {
+                    Err(fault) => assert!(rt; false, "{fault:?}"),
+                    Ok(name) => assert!(rt; name.as_bytes() == want),
+                }
+            }
         }
     }
     Ok(())

@@ -1,3 +1,4 @@
 pub mod AliasLemmas
+pub mod LookupLemmas
 pub mod Scans
 pub mod Rows

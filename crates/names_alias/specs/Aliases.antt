@@ -29,9 +29,11 @@ with_fixed table name =
 -- The table with one pair more, unless it has a pair of this alias.
 abbrev pub with_pair : AliasTable → List ℕ → List ℕ → AliasTable
 with_pair table alias original =
-    if is_some (original_of table.pairs alias) then table else record table { pairs = table.pairs ++ (alias, original) ∷ [] }
+    if is_some (original_of table.pairs alias) then table
+    else record table { pairs = table.pairs ++ (alias, original) ∷ [] }
 
--- What a name stands for: itself where it is built in or fixed, else the original of its first pair, else that of its built-in alias, else itself.
+-- What a name stands for: itself where it is built in or fixed, else the original of its first pair,
+-- else that of its built-in alias, else itself.
 abbrev pub resolved : AliasTable → List ℕ → List ℕ
 resolved table name =
     if is_builtin_name name || is_fixed table.fixed name then name
@@ -41,6 +43,7 @@ resolved table name =
 abbrev pub unless_reserved : List ℕ → Result (List ℕ) NameFault
 unless_reserved name = if bytes_eq name internal_name then Err Reserved else Ok name
 
+-- What a normal form stands for, where there is one.
 abbrev pub resolved_result : AliasTable → Result (List ℕ) NameFault → Result (List ℕ) NameFault
 resolved_result table (Ok name) = unless_reserved (resolved table name)
 resolved_result table (Err fault) = Err fault

@@ -9,7 +9,9 @@ internal_name = codes "INTERNAL//"
 
 -- The names of the built-in sets, in the order of their conversions.
 abbrev pub builtin_sets : List (List ℕ)
-builtin_sets = codes "ASCII//" ∷ codes "UTF-8//" ∷ codes "UTF-16//" ∷ codes "UTF-16LE//" ∷ codes "UTF-16BE//" ∷ codes "UCS-4//" ∷ []
+builtin_sets =
+    codes "ASCII//" ∷ codes "UTF-8//" ∷ codes "UTF-16//" ∷ codes "UTF-16LE//" ∷ codes "UTF-16BE//"
+    ∷ codes "UCS-4//" ∷ []
 
 -- A name is built in where it is one of these.
 abbrev pub is_builtin_name : List ℕ → Bool
@@ -21,4 +23,6 @@ Pair = List ℕ × List ℕ
 
 -- The aliases that are built in, each with its original.
 abbrev pub builtin_aliases : List Pair
-builtin_aliases = (codes "UTF8//", codes "UTF-8//") ∷ (codes "UTF16//", codes "UTF-16//") ∷ (codes "UCS4//", codes "UCS-4//") ∷ (codes "US-ASCII//", codes "ASCII//") ∷ []
+builtin_aliases =
+    (codes "UTF8//", codes "UTF-8//") ∷ (codes "UTF16//", codes "UTF-16//")
+    ∷ (codes "UCS4//", codes "UCS-4//") ∷ (codes "US-ASCII//", codes "ASCII//") ∷ []

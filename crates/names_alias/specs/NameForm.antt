@@ -10,7 +10,9 @@ to_upper b = if nat_le 97 b && nat_le b 122 then b - 32 else b
 
 -- A name keeps A to Z, 0 to 9, and the signs _ - . , : and /.
 abbrev pub is_kept : ℕ → Bool
-is_kept b = (nat_le 65 b && nat_le b 90) || (nat_le 48 b && nat_le b 57) || b == 95 || b == 45 || b == 46 || b == 44 || b == 58 || b == 47
+is_kept b =
+    (nat_le 65 b && nat_le b 90) || (nat_le 48 b && nat_le b 57)
+    || b == 95 || b == 45 || b == 46 || b == 44 || b == 58 || b == 47
 
 -- The kept bytes of a text in upper case, each behind its place in the text.
 abbrev pub kept_bytes : List ℕ → List (ℕ × ℕ)

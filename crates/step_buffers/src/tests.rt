@@ -1,47 +1,39 @@
 //! Streams in pieces as their callers convert them.
 
-ghost use Rattle.std.specs.Prelude.{◌≡◌, ◌≤◌, [], ◌∷◌, length};
-ghost use Rattle.step_buffers.specs.EmptyTable.{empty_tables};
+ghost use Rattle.std.specs.Prelude.{◌≡◌, ◌+◌, ◌≤◌, length};
+ghost use Rattle.code_pairs.specs.Tables.{Tables};
+ghost use Rattle.chain_steps.specs.Chains.{CanRun};
 
 use crate::{Fed, Finish, Session, Whole};
 use chain_steps::{Bound, Joints, Recipe, Runner, Set};
-use code_pairs::Code;
-use code_table::{Look, Lookup};
+use code_table::Owned;
 use std::alloc::{AllocError, Global};
 use step_unicode::Uni;
 
-/// One table, which is empty.
-#[derive(Drop)]
-struct NoCodes;
-
-impl Lookup for NoCodes {
-    ghost tables = { λ _. [] ∷ [] };
-
-    ghost ready = { λ _. Unit {0} };
-
-    ghost kept = { λ _ _. Unit {0} };
-
-    fn code(&mut self, _table: u32, _bytes: &[u8]) -> Look {
-        Look::Nothing
-    }
-
-    fn bytes(&mut self, _table: u32, _point: u32) -> Option<Code> {
-        None
-    }
-
-    ghost well_formed = { λ _ k _. empty_tables k };
-
-    ghost kept_none = { λ _. tt };
-
-    ghost kept_twice = { λ _ _ _ _ _. tt };
-}
-
-fn runner(alloc: Global, reader: Uni, writer: Uni) -> Runner {
+/// A chain between two sets without a table.
+fn runner(alloc: Global, reader: Uni, writer: Uni) -> Runner
+    ensures { (ts : Tables) → CanRun ts result.recipe }
+{
     Runner::new(Recipe {
         reader: Set::Unicode(reader),
         joints: Joints::none(alloc),
         writer: Set::Unicode(writer),
     })
+}
+
+/// Feeds a piece over no tables.
+fn feed<'a>(
+    session: &mut Session,
+    bound: &mut Bound<'a, Owned>,
+    piece: &[u8],
+) -> Result<Fed, AllocError>
+    requires range { (ts : Tables) → CanRun ts bound.old.runner.now.recipe }
+    requires piece { length piece.now ≤ 64 }
+    requires taken { session.old.taken ≤ 4096 }
+    ensures range { (ts : Tables) → CanRun ts bound.new.runner.now.recipe }
+    ensures taken { session.new.taken ≤ session.old.taken + length piece.now }
+{
+    session.feed(bound, piece)
 }
 
 /// The conversion of a stream that comes in two pieces.
@@ -56,14 +48,16 @@ fn in_two(
     requires second { length second.now ≤ 64 }
 {
     let mut runner = runner(alloc, reader, writer);
-    let mut tables = NoCodes;
+    let mut tables = Owned {
+        tables: Vec::new(alloc),
+    };
     let mut bound = Bound {
         runner: &mut runner,
         tables: &mut tables,
     };
     let mut session = Session::new(alloc)?;
-    let _ = session.feed(&mut bound, first)?;
-    let _ = session.feed(&mut bound, second)?;
+    let _ = feed(&mut session, &mut bound, first)?;
+    let _ = feed(&mut session, &mut bound, second)?;
     Ok(session.finish(&mut bound))
 }
 
@@ -72,14 +66,16 @@ fn in_bytes(alloc: Global, reader: Uni, writer: Uni, input: &[u8]) -> Result<Who
     requires { length input.now ≤ 64 }
 {
     let mut runner = runner(alloc, reader, writer);
-    let mut tables = NoCodes;
+    let mut tables = Owned {
+        tables: Vec::new(alloc),
+    };
     let mut bound = Bound {
         runner: &mut runner,
         tables: &mut tables,
     };
     let mut session = Session::with_room(alloc, input.len() as u64)?;
     for byte in input {
-        let _ = session.feed(&mut bound, &[*byte])?;
+        let _ = feed(&mut session, &mut bound, &[*byte])?;
     }
     Ok(session.finish(&mut bound))
 }
@@ -124,17 +120,19 @@ fn cuts_change_nothing(rt: HostRuntime) -> Result<(), AllocError> {
 #[test]
 fn a_point_comes_in_four_pieces(rt: HostRuntime) -> Result<(), AllocError> {
     let mut runner = runner(rt.alloc(), Uni::Utf8, Uni::Utf16Be);
-    let mut tables = NoCodes;
+    let mut tables = Owned {
+        tables: Vec::new(rt.alloc()),
+    };
     let mut bound = Bound {
         runner: &mut runner,
         tables: &mut tables,
     };
     let mut session = Session::new(rt.alloc())?;
-    assert!(&rt; session.feed(&mut bound, &[0xF0])? == Fed::Going);
-    assert!(&rt; session.feed(&mut bound, &[0x9F])? == Fed::Going);
-    assert!(&rt; session.feed(&mut bound, &[0x98])? == Fed::Going);
+    assert!(&rt; feed(&mut session, &mut bound, &[0xF0])? == Fed::Going);
+    assert!(&rt; feed(&mut session, &mut bound, &[0x9F])? == Fed::Going);
+    assert!(&rt; feed(&mut session, &mut bound, &[0x98])? == Fed::Going);
     assert!(&rt; session.output().is_empty());
-    assert!(&rt; session.feed(&mut bound, &[0x80])? == Fed::Going);
+    assert!(&rt; feed(&mut session, &mut bound, &[0x80])? == Fed::Going);
     assert!(&rt; session.output() == [0xD8, 0x3D, 0xDE, 0x00].as_slice());
     let whole = session.finish(&mut bound);
     assert!(&rt; whole.finish == Finish::Done);

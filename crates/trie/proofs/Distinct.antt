@@ -8,6 +8,7 @@ use Rattle.trie.specs.Fronts.{is_front, level, fronts, children}
 use Rattle.trie.specs.Leaf.{Leaf}
 use Rattle.trie.proofs.Fronts.{Has, has_at, has_either, kept_has, level_length, front_level}
 
+-- a front has 256 children
 pub length-children : (p : List ℕ) → length (children p) ≡ 256
 length-children p = length-map-range_with_len (λ b. p ++ b ∷ []) 0 256
 
@@ -25,15 +26,18 @@ child_at (p ∷ ps) (suc k) b lt small =
     ∙ get_or-append-add (children p) (flat_map children ps) (256 * k + b) []
     ∙ child_at ps k b (omega arith) small
 
+-- each of some fronts has 256 children
 pub length-all_children : (ps : List (List ℕ)) → length (flat_map children ps) ≡ 256 * length ps
 length-all_children [] = refl
 length-all_children (p ∷ ps) = length-append (children p) (flat_map children ps)
     ∙ omega (arith, length-children p, length-all_children ps)
 
+-- no string stands twice in a list
 abbrev pub Distinct : List (List ℕ) → Type 0
 Distinct [] = Unit {0}
 Distinct (p ∷ ps) = (Has p ps → ⊥) × Distinct ps
 
+-- nor where a test leaves some out
 pub distinct_kept : (f : List ℕ → Bool) (ps : List (List ℕ)) → Distinct ps → Distinct (filter f ps)
 distinct_kept f [] d = tt
 distinct_kept f (p ∷ ps) d = elim (cases_Bool (f p)) [
@@ -41,6 +45,7 @@ distinct_kept f (p ∷ ps) d = elim (cases_Bool (f p)) [
   | inr u ↦ rw u (distinct_kept f ps d.1)
 ]
 
+-- nor where two lists without a common string are joined
 pub distinct_joined : (ps qs : List (List ℕ)) → Distinct ps → Distinct qs →
     ((q : List ℕ) → Has q ps → Has q qs → ⊥) → Distinct (ps ++ qs)
 distinct_joined [] qs d e apart = e
@@ -78,6 +83,7 @@ byte_of q p a (suc n) h =
           (v.0, omega (arith, v.1), v.2)
     ]
 
+-- a child has a front of the list and one byte more
 pub front_of : (q : List ℕ) (ps : List (List ℕ)) → Has q (flat_map children ps) →
     (p : List ℕ) × (b : ℕ) × Has p ps × (q ≡ p ++ b ∷ [])
 front_of q [] h = absurd h
@@ -94,6 +100,7 @@ distinct_bytes p a (suc n) = (
   distinct_bytes p (a + 1) n,
 )
 
+-- distinct fronts have distinct children
 pub distinct_children : (ps : List (List ℕ)) → Distinct ps → Distinct (flat_map children ps)
 distinct_children [] d = tt
 distinct_children (p ∷ ps) d =
@@ -101,12 +108,14 @@ distinct_children (p ∷ ps) d =
     (λ q a b. let v = byte_of q p 0 256 a in let w = front_of q ps b in
     d.0 (subst (λ r. Has r ps) (sym (same_front p w.0 v.0 w.1 (sym v.2 ∙ w.3)).0) w.2))
 
+-- the fronts of one length are distinct
 pub distinct_level : (leaves : List Leaf) (n : ℕ) → Distinct (level leaves n)
 distinct_level leaves zero = ((λ h. h), tt)
 distinct_level leaves (suc n) =
     distinct_kept (is_front leaves) (flat_map children (level leaves n))
     (distinct_children (level leaves n) (distinct_level leaves n))
 
+-- and so are those of all lengths
 pub distinct_fronts : (leaves : List Leaf) (n : ℕ) → Distinct (fronts leaves n)
 distinct_fronts leaves zero = tt
 distinct_fronts leaves (suc n) =

@@ -61,6 +61,7 @@ put_other ws page byte w k b n = elim (cases_Bool (eqb (word_in ws page byte) 0)
   | inr f ↦ rw f refl
 ]
 
+-- a word put into a page changes no length
 pub length-put : (ws : List ℕ) (o : Option ℕ) (byte w : ℕ) → length (put_with ws o byte w) ≡ length ws
 length-put ws None byte w = refl
 length-put ws (Some page) byte w = elim (cases_Bool (eqb (word_in ws page byte) 0)) [
@@ -95,6 +96,7 @@ fill_refers leaves first i ws apart h = record {
       (word_begins leaves i apart (get_or (pages leaves) k [] ++ b ∷ []) t);
 }
 
+-- there is a page, that of the empty front
 pub some_page : (leaves : List Leaf) → 0 < length (pages leaves)
 some_page leaves = omega (
   arith,

@@ -10,9 +10,11 @@ use Rattle.trie.specs.Leaf.{Leaf}
 use Rattle.trie.proofs.Places.{some_none, place_there, bytes_same}
 use Rattle.trie.proofs.Walks.{IsPlaced}
 
+-- the two truth values differ
 pub true_false : true ≡ false → ⊥
 true_false e = cc
 
+-- and the other way round
 pub false_true : false ≡ true → ⊥
 false_true e = cc
 
@@ -21,6 +23,7 @@ abbrev pub Has : List ℕ → List (List ℕ) → Type 0
 Has q [] = ⊥
 Has q (p ∷ ps) = (p ≡ q) ⊎ Has q ps
 
+-- what stands at a place stands in the list
 pub has_at : (q : List ℕ) (ps : List (List ℕ)) (k : ℕ) → k < length ps → get_or ps k [] ≡ q → Has q ps
 has_at q [] k lt e = omega arith
 has_at q (p ∷ ps) zero lt e = inl e
@@ -30,6 +33,7 @@ map_none : (o : Option ℕ) → option_map (λ j. j + 1) o ≡ None → o ≡ No
 map_none None e = refl
 map_none (Some j) e = absurd (some_none e)
 
+-- what stands in a list has a place
 pub has_found : (q : List ℕ) (ps : List (List ℕ)) → Has q ps → place_of q ps ≡ None → ⊥
 has_found q [] h n = absurd h
 has_found q (p ∷ ps) h n = elim (cases_Bool (bytes_eq p q)) [
@@ -40,14 +44,17 @@ has_found q (p ∷ ps) h n = elim (cases_Bool (bytes_eq p q)) [
   ]
 ]
 
+-- what stands in a list stands in it with more behind
 pub has_left : (q : List ℕ) (ps qs : List (List ℕ)) → Has q ps → Has q (ps ++ qs)
 has_left q [] qs h = absurd h
 has_left q (p ∷ ps) qs h = elim h [ inl e ↦ inl e | inr r ↦ inr (has_left q ps qs r) ]
 
+-- and with more before it
 pub has_right : (q : List ℕ) (ps qs : List (List ℕ)) → Has q qs → Has q (ps ++ qs)
 has_right q [] qs h = h
 has_right q (p ∷ ps) qs h = inr (has_right q ps qs h)
 
+-- what stands in two lists stands in one of them
 pub has_either : (q : List ℕ) (ps qs : List (List ℕ)) → Has q (ps ++ qs) → Has q ps ⊎ Has q qs
 has_either q [] qs h = inr h
 has_either q (p ∷ ps) qs h =
@@ -57,6 +64,7 @@ has_either q (p ∷ ps) qs h =
       | inr r ↦ elim (has_either q ps qs r) [ inl a ↦ inl (inr a) | inr b ↦ inr b ]
     ]
 
+-- what passes a test stays
 pub has_kept : (f : List ℕ → Bool) (q : List ℕ) (ps : List (List ℕ)) → f q ≡ true → Has q ps →
     Has q (filter f ps)
 has_kept f q [] t h = absurd h
@@ -69,6 +77,7 @@ has_kept f q (p ∷ ps) t h = elim (cases_Bool (f p)) [
   ])
 ]
 
+-- what stays passed the test and stood there
 pub kept_has : (f : List ℕ → Bool) (q : List ℕ) (ps : List (List ℕ)) → Has q (filter f ps) →
     (f q ≡ true) × Has q ps
 kept_has f q [] h = absurd h
@@ -89,6 +98,7 @@ has_byte p b a (suc n) h lt = elim (cases_eq a b) [
   | inr ne ↦ inr (has_byte p b (a + 1) n (omega arith) (omega arith))
 ]
 
+-- a front with one byte more is one of its children
 pub has_child : (b : ℕ) (p : List ℕ) (ps : List (List ℕ)) → b < 256 → Has p ps →
     Has (p ++ b ∷ []) (flat_map children ps)
 has_child b p [] lt h = absurd h
@@ -117,6 +127,7 @@ child_length n (p ∷ ps) each q h = elim (has_either q (children p) (flat_map c
   | inr b ↦ child_length n ps (λ r k. each r (inr k)) q b
 ]
 
+-- the fronts of a level have its length
 pub level_length : (leaves : List Leaf) (n : ℕ) (q : List ℕ) → Has q (level leaves n) → length q ≡ n
 level_length leaves zero q h = elim h [ inl e ↦ ap length (sym e) | inr r ↦ absurd r ]
 level_length leaves (suc n) q h =
@@ -132,6 +143,7 @@ front_level leaves (suc n) q h = elim (has_either q (fronts leaves n) (level lea
   | inr b ↦ (n, omega arith, b)
 ]
 
+-- a front of a level stands among those of all lengths
 pub level_front : (leaves : List Leaf) (n m : ℕ) (q : List ℕ) → m < n → Has q (level leaves m) →
     Has q (fronts leaves n)
 level_front leaves zero m q lt h = omega arith
@@ -140,6 +152,7 @@ level_front leaves (suc n) m q lt h = elim (cases_eq m n) [
   | inr ne ↦ has_left q (fronts leaves n) (level leaves n) (level_front leaves n m q (omega arith) h)
 ]
 
+-- what goes on from a string is longer
 pub goes_longer : (q p : List ℕ) → is_proper_prefix q p ≡ true → length q < length p
 goes_longer [] [] h = absurd (false_true h)
 goes_longer [] (y ∷ ys) h = omega arith
@@ -149,6 +162,7 @@ goes_longer (x ∷ xs) (y ∷ ys) h = elim (cases_Bool (eqb x y)) [
   | inr f ↦ absurd (false_true (rw f at h))
 ]
 
+-- a front is shorter than the longest path
 pub begins_short : (most : ℕ) (leaves : List Leaf) (q : List ℕ) → AreShort most leaves →
     is_front leaves q ≡ true → length q < most
 begins_short most [] q s h = absurd (false_true h)

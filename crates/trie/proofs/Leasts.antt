@@ -33,10 +33,12 @@ at_most_same x y xs ys e = rw (not_less x y (omega arith), eq-eqb x y e) refl
 at_most_more : (x y : ℕ) (xs ys : List ℕ) → y < x → at_most (x ∷ xs) (y ∷ ys) ≡ false
 at_most_more x y xs ys lt = rw (not_less x y (omega arith), ne_eqb x y (λ e. omega arith)) refl
 
+-- a string is at most itself
 pub at_most_refl : (a : List ℕ) → at_most a a ≡ true
 at_most_refl [] = refl
 at_most_refl (x ∷ xs) = at_most_same x x xs xs refl ∙ at_most_refl xs
 
+-- of two strings one is at most the other
 pub at_most_either : (a b : List ℕ) → at_most a b ≡ false → at_most b a ≡ true
 at_most_either [] b f = absurd (true_false f)
 at_most_either (x ∷ xs) [] f = refl
@@ -46,6 +48,7 @@ at_most_either (x ∷ xs) (y ∷ ys) f = elim (way x y) [
   | more lt ↦ at_most_less y x ys xs lt
 ]
 
+-- the order goes on from one string to the next
 pub at_most_trans : (a b c : List ℕ) → at_most a b ≡ true → at_most b c ≡ true → at_most a c ≡ true
 at_most_trans [] b c p q = refl
 at_most_trans (x ∷ xs) [] c p q = absurd (false_true p)
@@ -136,5 +139,6 @@ lesser_below leaves (Some i) n d h =
     elim (at_most (get_or leaves i d).path (get_or leaves n d).path) as (λ b. cond b i n < n + 1)
     [ true ↦ omega (arith, h i refl) | false ↦ omega arith ]
 
+-- two places that are told alike are one
 pub same_some : {m n : ℕ} → Some m ≡ Some n → m ≡ n
 same_some e = cc

@@ -30,12 +30,15 @@ no_longer (l ∷ ls) q b bs f = elim (cases_Bool (bytes_eq l.path (q ++ b ∷ bs
       [ inl g ↦ absurd (true_false (rw g at f)) | inr g ↦ rw g at f ]))
 ]
 
+-- a word that is found at a length
 abbrev at_word : ℕ → Option ℕ → Option Walk
 at_word used o = option_map (λ word. Word word used) o
 
+-- the answer that is found, else whether a path goes on
 abbrev look_or : Option Walk → Bool → Walk
 look_or o t = unwrap_or o (cond t Inside Outside)
 
+-- what the first bytes of a text lead to
 abbrev finds : List Leaf → List ℕ → ℕ → Option Walk
 finds leaves text n = found leaves text n
 

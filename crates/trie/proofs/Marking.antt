@@ -10,7 +10,7 @@ use Rattle.trie.specs.Stages.{IsStage, marked_with}
 use Rattle.trie.specs.Words.{front_page}
 use Rattle.trie.specs.Leaf.{Leaf}
 use Rattle.trie.proofs.Walks.{AreBytes}
-use Rattle.trie.proofs.Fronts.{has_at, level_length, front_level, false_true, child_length, goes_longer}
+use Rattle.trie.proofs.Fronts.{Has, has_at, level_length, front_level, false_true, child_length, goes_longer, begins_short}
 use Rattle.trie.proofs.Distinct.{distinct_at, distinct_children, distinct_level, child_at, length-all_children}
 use Rattle.trie.proofs.Stages.{page_of, short_front, front_same}
 
@@ -24,6 +24,7 @@ goes_front (x ∷ xs) (y ∷ ys) h = elim (cases_eq x y) [
   | inr n ↦ absurd (false_true (rw (ne_eqb x y n) at h))
 ]
 
+-- a string goes on from each shorter front of it
 pub front_goes : (n : ℕ) (p : List ℕ) → n < length p → is_proper_prefix (take n p) p ≡ true
 front_goes zero [] lt = absurd (omega arith)
 front_goes zero (y ∷ ys) lt = refl
@@ -126,6 +127,7 @@ at_least leaves n j low len = elim (below_or j (length (fronts leaves n))) [
   | inr b ↦ b
 ]
 
+-- the page of a front, by its place in its level
 pub level_page : (leaves : List Leaf) (first n : ℕ) (ws : List ℕ) → n ≤ 3 → AreShort 4 leaves →
     Refers leaves first n ws → (q : List ℕ) → AreBytes q → length q ≡ n → is_front leaves q ≡ true
     → (i : ℕ) × IsLevelPage leaves first n q (front_page ws first q) i
@@ -157,6 +159,7 @@ level_page leaves first n ws le short st q ok len t =
       },
     )
 
+-- a front of bytes is bytes
 pub take_bytes : (n : ℕ) (p : List ℕ) → AreBytes p → AreBytes (take n p)
 take_bytes n p ok i = elim (below_or i (length (take n p))) [
   | inl a ↦ omega (arith, ok i, get_or-take n p i 0 (omega (arith, length-take n p)))
@@ -200,6 +203,7 @@ mark_step leaves first n ws i d ms le short st lt ok long is =
     (λ k small same. distinct_at cs k at
     (distinct_children (level leaves n) (distinct_level leaves n)) small room same)
 
+-- a path that goes on no further marks nothing
 pub short_step : (leaves : List Leaf) (n i : ℕ) (d : Leaf) (ms : List Bool) → i < length leaves →
     length (get_or leaves i d).path ≤ n + 1 →
     ms ≡ map (is_front (take i leaves)) (flat_map children (level leaves n)) →
@@ -212,7 +216,30 @@ pub unmarked : (cs : List (List ℕ)) → replicate (length cs) false ≡ map (i
 unmarked [] = refl
 unmarked (c ∷ cs) = ap (λ bs. false ∷ bs) (unmarked cs)
 
+-- at first no child of a level is marked
 pub unmarked_children : (ps : List (List ℕ)) (n : ℕ) → n ≡ 256 * length ps →
     replicate n false ≡ map (is_front []) (flat_map children ps)
 unmarked_children ps n e = ap (λ m. replicate m false) (e ∙ sym (length-all_children ps))
     ∙ unmarked (flat_map children ps)
+
+-- where no path is longer, nothing is marked
+none_marked : (leaves : List Leaf) (n most : ℕ) (cs : List (List ℕ)) → AreShort most leaves → most ≤ n →
+    ((c : List ℕ) → Has c cs → length c ≡ n) → replicate (length cs) false ≡ map (is_front leaves) cs
+none_marked leaves n most [] short le each = refl
+none_marked leaves n most (c ∷ cs) short le each =
+    let stays : is_front leaves c ≡ false = elim (cases_Bool (is_front leaves c)) [
+      | inl t ↦ absurd (let below = begins_short most leaves c short t in
+          omega (arith, below, each c (inl refl)))
+      | inr f ↦ f
+    ] in
+    ap (λ b. b ∷ replicate (length cs) false) (sym stays)
+    ∙ ap (λ bs. is_front leaves c ∷ bs) (none_marked leaves n most cs short le (λ d h. each d (inr h)))
+
+-- so no child of a level is
+pub none_longer_marked : (leaves : List Leaf) (n most many : ℕ) → AreShort most leaves → most ≤ n + 1 →
+    many ≡ 256 * length (level leaves n) →
+    replicate many false ≡ map (is_front leaves) (flat_map children (level leaves n))
+none_longer_marked leaves n most many short le e =
+    ap (λ m. replicate m false) (e ∙ sym (length-all_children (level leaves n)))
+    ∙ none_marked leaves (n + 1) most (flat_map children (level leaves n)) short le
+    (λ c h. child_length n (level leaves n) (level_length leaves n) c h)

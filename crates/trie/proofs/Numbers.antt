@@ -25,6 +25,7 @@ no_place : (q : List ℕ) (ps : List (List ℕ)) (o : Option ℕ) → place_of q
 no_place q ps None e n = refl
 no_place q ps (Some j) e n = let r = place_there q ps j e in absurd (n (has_at q ps j r.within r.there))
 
+-- what does not stand in a list has no place
 pub place_none : (q : List ℕ) (ps : List (List ℕ)) → (Has q ps → ⊥) → place_of q ps ≡ None
 place_none q ps n = no_place q ps (place_of q ps) refl n
 
@@ -100,6 +101,7 @@ place_is q ps k d lt e = is q ps k d lt e (place_of q ps) refl
     is q ps k d lt e (Some j) n = let r = place_there q ps j n in n
         ∙ ap Some (distinct_at ps j k d r.within lt (r.there ∙ sym e))
 
+-- more lengths have no fewer fronts
 pub fronts_grow : (leaves : List Leaf) (n m : ℕ) → n ≤ m → length (fronts leaves n) ≤ length (fronts leaves m)
 fronts_grow leaves n zero le = let e : n ≡ 0 = omega arith in
     subst (λ i. length (fronts leaves i) ≤ 0) (sym e) (omega arith)
@@ -180,6 +182,7 @@ stage_next leaves first n ws ms le short st size is few = record {
       ];
 }
 
+-- there is a word for each mark
 pub length-numbered : (ms : List Bool) (next : ℕ) → length (numbered next ms) ≡ length ms
 length-numbered [] next = refl
 length-numbered (true ∷ ms) next = ap suc (length-numbered ms (next + 1))
@@ -198,6 +201,7 @@ one_more : (b : Bool) (ms : List Bool) →
 one_more true ms = omega arith
 one_more false ms = refl
 
+-- as many marks stand as strings pass
 pub count_marks : (f : List ℕ → Bool) (cs : List (List ℕ)) →
     count_by (λ m. m) (map f cs) ≡ length (filter f cs)
 count_marks f cs = sym (is_count_by (λ ms. length (filter (λ m. m) ms)) (λ m. m) refl one_more (map f cs))

@@ -3,17 +3,18 @@ use Rattle.std.proofs.Common.{◌≡◌, ◌<◌, ◌≤◌, ◌∙◌, ℕ, suc
 use Rattle.std.proofs.lemmas.List.{get_or-map, length-map}
 use Rattle.std.proofs.lemmas.Bool.{cases_Bool}
 use Rattle.trie.specs.Leaf.{Leaf}
-use Rattle.trie.specs.Fronts.{is_proper_prefix, is_front, paths, AreShort}
+use Rattle.trie.specs.Fronts.{is_proper_prefix, is_front, paths, AreShort, AreLong}
 use Rattle.trie.specs.Leasts.{IsLeastAt, IsLeastSoFar}
 use Rattle.trie.specs.Overlaps.{at_most, IsLeast, is_prefix_of_one, AreApart, path_at, IsOverlapAt}
 use Rattle.trie.specs.Stages.{NoneGoesOn}
-use Rattle.trie.proofs.Fronts.{true_false}
+use Rattle.trie.proofs.Fronts.{true_false, begins_short}
 
 -- the path of a leaf by its place
 pub path_is : (leaves : List Leaf) (i : ℕ) (d : Leaf) (q : List ℕ) → i < length leaves →
     get_or (paths leaves) i q ≡ (get_or leaves i d).path
 path_is leaves i d q lt = get_or-map (λ (l : Leaf). l.path) leaves i d q lt
 
+-- a path goes on from a string exactly where it is a front
 pub one_is : (leaves : List Leaf) (front : List ℕ) →
     is_prefix_of_one (paths leaves) front ≡ is_front leaves front
 one_is [] front = refl
@@ -83,3 +84,42 @@ short_more most (suc i) (l ∷ ls) d lt short few =
       subst (λ n. AreShort most (take n ls)) (add-one i)
           (short_more most i ls d (omega arith) short.1 few),
     )
+
+-- one more long path
+pub long_more : (least i : ℕ) (leaves : List Leaf) (d : Leaf) → i < length leaves →
+    AreLong least (take i leaves) →
+    least ≤ length (get_or leaves i d).path → AreLong least (take (i + 1) leaves)
+long_more least zero [] d lt long many = absurd (omega arith)
+long_more least zero (l ∷ ls) d lt long many = (many, tt)
+long_more least (suc i) [] d lt long many = absurd (omega arith)
+long_more least (suc i) (l ∷ ls) d lt long many = rw (add-one (suc i)) (
+  long.0,
+  subst (λ n. AreLong least (take n ls)) (add-one i)
+      (long_more least i ls d (omega arith) long.1 many),
+)
+
+-- paths are as short as any greater length
+pub shorter : (m n : ℕ) (leaves : List Leaf) → m ≤ n → AreShort m leaves → AreShort n leaves
+shorter m n [] le short = tt
+shorter m n (l ∷ ls) le short = (omega (arith, short.0), shorter m n ls le short.1)
+
+-- and as long as any lesser one
+pub longer : (m n : ℕ) (leaves : List Leaf) → n ≤ m → AreLong m leaves → AreLong n leaves
+longer m n [] le long = tt
+longer m n (l ∷ ls) le long = (omega (arith, long.0), longer m n ls le long.1)
+
+long_at : (least i : ℕ) (leaves : List Leaf) (d : Leaf) → i < length leaves → AreLong least leaves →
+    least ≤ length (get_or leaves i d).path
+long_at least i [] d lt long = absurd (omega arith)
+long_at least zero (l ∷ ls) d lt long = long.0
+long_at least (suc i) (l ∷ ls) d lt long = long_at least i ls d (omega arith) long.1
+
+-- where all paths have one length, none goes on from another
+pub none_longer : (most least : ℕ) (leaves : List Leaf) → most ≤ least → AreShort most leaves →
+    AreLong least leaves → NoneGoesOn leaves
+none_longer most least leaves le short long i d lt =
+    elim (cases_Bool (is_front leaves (get_or leaves i d).path)) [
+      | inl t ↦ absurd (let below = begins_short most leaves (get_or leaves i d).path short t in
+          let above = long_at least i leaves d lt long in omega (arith, below, above))
+      | inr f ↦ f
+    ]

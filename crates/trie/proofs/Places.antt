@@ -23,6 +23,7 @@ pub goes_on_whole : (q : List ℕ) (b : ℕ) (bs : List ℕ) → is_proper_prefi
 goes_on_whole [] b bs = refl
 goes_on_whole (x ∷ xs) b bs = rw (eq-eqb x x refl) (goes_on_whole xs b bs)
 
+-- a front of a front is a front
 pub begins_front : (leaves : List Leaf) (q r : List ℕ) → is_front leaves (q ++ r) ≡ true →
     is_front leaves q ≡ true
 begins_front [] q r h = h
@@ -34,10 +35,12 @@ begins_front (l ∷ ls) q r h = elim (cases_Bool (is_proper_prefix (q ++ r) l.pa
   ]
 ]
 
+-- a string is the same as itself
 pub bytes_same : (a : List ℕ) → bytes_eq a a ≡ true
 bytes_same [] = refl
 bytes_same (x ∷ xs) = rw (eq-eqb x x refl) (bytes_same xs)
 
+-- strings that test equal are equal
 pub bytes_equal : (a b : List ℕ) → bytes_eq a b ≡ true → a ≡ b
 bytes_equal [] [] h = refl
 bytes_equal [] (y ∷ ys) h = cc
@@ -47,6 +50,7 @@ bytes_equal (x ∷ xs) (y ∷ ys) h = elim (cases_eq x y) [
   | inr n ↦ absurd (let e : false ≡ true = rw (ne_eqb x y n) at h in cc)
 ]
 
+-- strings that differ test so
 pub bytes_differ : (a b : List ℕ) → a ≢ b → bytes_eq a b ≡ false
 bytes_differ a b n = elim (cases_Bool (bytes_eq a b)) [ inl t ↦ absurd (n (bytes_equal a b t)) | inr f ↦ f ]
 
@@ -55,6 +59,7 @@ pub record IsPlace (q : List ℕ) (ps : List (List ℕ)) (k : ℕ) : Type 0 wher
   pub within : k < length ps
   pub there : get_or ps k [] ≡ q
 
+-- what is there is not missing
 pub some_none : {n : ℕ} → Some n ≡ None → ⊥
 some_none e = cc
 

@@ -113,6 +113,7 @@ next leaves first n ws le short st b bs k ok len within cut word t goes (Some j)
       subst (λ v. IsPage leaves v rest.0) whole rest.2,
     )
 
+-- references lead to the page of each front that paths go on from
 pub page_of : (leaves : List Leaf) (first n : ℕ) (ws : List ℕ) → n ≤ 3 → AreShort 4 leaves →
     Refers leaves first n ws → (r : List ℕ) (k : ℕ) → k < length (pages leaves) → AreBytes r
     → length (get_or (pages leaves) k []) + length r ≤ n →

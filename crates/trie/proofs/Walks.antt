@@ -28,6 +28,7 @@ pub record HoldsPages (leaves : List Leaf) (first : ℕ) (ps : List (List ℕ)) 
   pub words : (k b : ℕ) → k < length ps → b < 256 →
       word_in ws (first + k) b ≡ cell leaves first ps (get_or ps k [] ++ b ∷ [])
 
+-- each number of the list is a byte
 abbrev pub AreBytes : List ℕ → Type 0
 AreBytes xs = (i : ℕ) → get_or xs i 0 < 256
 
@@ -38,6 +39,7 @@ pub record IsPlaced (leaves : List Leaf) (ps : List (List ℕ)) : Type 0 where
   pub outside : (k b : ℕ) → k < length ps → b < 256 → is_front leaves (get_or ps k [] ++ b ∷ []) ≡ false →
       place_of (get_or ps k [] ++ b ∷ []) ps ≡ None
 
+-- a reference refers to its page
 pub page_in_ref : (n : ℕ) → n < 2 ^ 32 → page_in (2 ^ 61 + n) ≡ Some n
 page_in_ref n h = rw (
   le-leb (2 ^ 61) (2 ^ 61 + n) (omega arith),
@@ -45,6 +47,7 @@ page_in_ref n h = rw (
       (omega arith),
 ) (ap Some (omega arith))
 
+-- a word of a path refers to no page
 pub page_in_word : (n : ℕ) → page_in (2 ^ 62 + n) ≡ None
 page_in_word n = elim (cases_Bool (ltb (2 ^ 62 + n) (2 ^ 61 + 2 ^ 32))) [
   | inl t ↦ absurd (let h : 2 ^ 62 + n < 2 ^ 61 + 2 ^ 32 = ltb-true (2 ^ 62 + n) (2 ^ 61 + 2 ^ 32) t in

@@ -46,3 +46,8 @@ pages leaves = fronts leaves 4
 abbrev pub AreShort : ℕ → List Leaf → Type 0
 AreShort most [] = Unit {0}
 AreShort most (l ∷ ls) = (length l.path ≤ most) × AreShort most ls
+
+-- No path has fewer bytes than this.
+abbrev pub AreLong : ℕ → List Leaf → Type 0
+AreLong least [] = Unit {0}
+AreLong least (l ∷ ls) = (least ≤ length l.path) × AreLong least ls

@@ -12,6 +12,7 @@ page_in w = if nat_le (2 ^ 61) w && nat_lt w (2 ^ 61 + 2 ^ 32) then Some (w - 2 
 abbrev pub word_in : List ℕ → ℕ → ℕ → ℕ
 word_in ws page place = get_or ws (256 * page + place) 0
 
+-- One word of a walk: a reference goes on, another word ends it, and 0 leads nowhere.
 abbrev pub walk_step : ℕ → ℕ → Option ℕ → (ℕ → Walk) → Walk
 walk_step w used (Some page) next = next page
 walk_step w used None next = if nat_le (2 ^ 62) w then Word (w - 2 ^ 62) used else Outside

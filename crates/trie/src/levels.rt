@@ -16,6 +16,7 @@ fn push_level<L: Leaves>(
     base: u32,
     depth: usize,
     count: u32,
+    longest: usize,
     leaves: &L,
 ) -> Result<u32, AllocError>
     requires stage { IsStage (L.leaves leaves.now) first depth words.old.items }
@@ -24,6 +25,7 @@ fn push_level<L: Leaves>(
     requires base { base ≡ first + length (fronts (L.leaves leaves.now) depth) }
     requires count { count ≡ length (level (L.leaves leaves.now) depth) }
     requires size { length words.old.items ≡ 256 * base }
+    requires longest { AreShort longest (L.leaves leaves.now) }
     ensures stage { OnOk result (IsStage (L.leaves leaves.now) first (depth + 1) words.new.items) }
     ensures count { IfOk result (λ n. n ≡ length (level (L.leaves leaves.now) (depth + 1))) }
     ensures size { OnOk result (length words.new.items ≡ 256 * (base + count)) }
@@ -37,6 +39,7 @@ fn push_level<L: Leaves>(
         base,
         depth,
         count as usize,
+        longest,
         leaves,
     )?;
     let next = mark_count(marked.as_slice());
@@ -55,9 +58,11 @@ pub fn push_levels<L: Leaves>(
     alloc: Global,
     words: &mut Vec<u64>,
     first: u32,
+    longest: usize,
     leaves: &L,
 ) -> Result<(), AllocError>
     requires short { AreShort 4 (L.leaves leaves.now) }
+    requires longest { AreShort longest (L.leaves leaves.now) }
     requires size { length words.old.items ≡ 256 * first }
     ensures stage { OnOk result (IsStage (L.leaves leaves.now) first 4 words.new.items) }
     ensures size { OnOk result (length words.new.items ≡
@@ -71,7 +76,7 @@ pub fn push_levels<L: Leaves>(
     let mut base = first;
     let mut count = 1;
     for depth in 0..4 {
-        let next = push_level(alloc, words, first, base, depth, count, leaves)?;
+        let next = push_level(alloc, words, first, base, depth, count, longest, leaves)?;
         base += count;
         count = next;
     }

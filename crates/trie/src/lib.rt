@@ -8,6 +8,7 @@
 
 mod entry;
 mod fill;
+mod lengths;
 mod levels;
 mod marks;
 mod overlap;

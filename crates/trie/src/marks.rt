@@ -46,6 +46,7 @@ pub fn marks<L: Leaves>(
     base: u32,
     depth: usize,
     count: usize,
+    longest: usize,
     leaves: &L,
 ) -> Result<Vec<bool>, AllocError>
     requires stage { IsStage (L.leaves leaves.now) first depth words.now }
@@ -53,10 +54,14 @@ pub fn marks<L: Leaves>(
     requires depth { depth ≤ 3 }
     requires base { base ≡ first + length (fronts (L.leaves leaves.now) depth) }
     requires count { count ≡ length (level (L.leaves leaves.now) depth) }
+    requires longest { AreShort longest (L.leaves leaves.now) }
     ensures { IfOk result (λ ms. ms.items ≡
         map (is_front (L.leaves leaves.now)) (flat_map children (level (L.leaves leaves.now) depth))) }
 {
     let mut marked = vec![in alloc; false; count * 256]?;
+    if longest <= depth + 1 {
+        return Ok(marked);
+    }
     for at in 0..leaves.count() {
         let entry = leaves.leaf(at);
         let path = entry.path();

@@ -2,12 +2,13 @@
 
 ghost use Rattle.std.specs.Prelude.{◌≡◌, ◌<◌, length, MatchOption};
 ghost use Rattle.std.specs.Option.{ForSome};
-ghost use Rattle.trie.specs.Fronts.{AreShort, is_front, is_proper_prefix};
+ghost use Rattle.trie.specs.Fronts.{AreLong, AreShort, is_front, is_proper_prefix};
 ghost use Rattle.trie.specs.Leasts.{IsLeastSoFar, lesser};
 ghost use Rattle.trie.specs.Overlaps.{at_most, IsOverlapAt};
 ghost use Rattle.trie.specs.Stages.{IsStage, NoneGoesOn, leads_on, word_behind};
 
 use crate::entry::Leaves;
+use crate::lengths::Lengths;
 use crate::marks::front_page;
 
 /// The word at a place of a page; 0 where there is no page.
@@ -98,12 +99,22 @@ fn least_behind<L: Leaves>(front: &[u8], leaves: &L) -> Option<usize>
 }
 
 /// The places of the least path that another one goes on from, and of the least that goes on from it.
-pub fn overlap<L: Leaves>(words: &[u64], first: u32, leaves: &L) -> Option<(usize, usize)>
+pub fn overlap<L: Leaves>(
+    words: &[u64],
+    first: u32,
+    lengths: Lengths,
+    leaves: &L,
+) -> Option<(usize, usize)>
     requires stage { IsStage (L.leaves leaves.now) first 4 words.now }
     requires short { AreShort 4 (L.leaves leaves.now) }
+    requires longest { AreShort lengths.longest (L.leaves leaves.now) }
+    requires shortest { AreLong lengths.shortest (L.leaves leaves.now) }
     ensures { let all = L.leaves leaves.now in
         MatchOption result (NoneGoesOn all) (λ o. IsOverlapAt all o.0 o.1) }
 {
+    if lengths.longest <= lengths.shortest {
+        return None;
+    }
     let front = least_front(words, first, leaves)?;
     let entry = leaves.leaf(front);
     match least_behind(entry.path(), leaves) {

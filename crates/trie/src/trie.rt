@@ -2,12 +2,13 @@
 
 ghost use Rattle.std.specs.Prelude.{◌≡◌, ◌*◌, ◌++◌, length, IfOk, OnOk, IfErr};
 ghost use Rattle.trie.specs.Faults.{IsFault};
-ghost use Rattle.trie.specs.Fronts.{AreShort, paths};
+ghost use Rattle.trie.specs.Fronts.{paths};
 ghost use Rattle.trie.specs.Overlaps.{AreApart};
 ghost use Rattle.trie.specs.Trie.{trie, IsTrieAt};
 
 use crate::entry::Leaves;
 use crate::fill::fill;
+use crate::lengths::lengths_of;
 use crate::levels::push_levels;
 use crate::overlap::overlap;
 use std::alloc::{AllocError, Global};
@@ -33,16 +34,6 @@ impl From<AllocError> for Fault {
     }
 }
 
-/// Learns that no path has more than four bytes.
-fn see_lengths<L: Leaves>(leaves: &L)
-    ensures { AreShort 4 (L.leaves leaves.now) }
-{
-    for at in 0..leaves.count() {
-        let entry = leaves.leaf(at);
-        let _path = entry.path();
-    }
-}
-
 /// Appends the pages of a trie to words, which are `first` pages.
 pub fn with_trie<L: Leaves>(
     alloc: Global,
@@ -56,9 +47,9 @@ pub fn with_trie<L: Leaves>(
     ensures apart { OnOk result (AreApart (paths (L.leaves leaves.now))) }
     ensures refused { IfErr result (IsFault (L.leaves leaves.now)) }
 {
-    see_lengths(leaves);
-    push_levels(alloc, &mut words, first, leaves)?;
-    match overlap(words.as_slice(), first, leaves) {
+    let lengths = lengths_of(leaves);
+    push_levels(alloc, &mut words, first, lengths.longest, leaves)?;
+    match overlap(words.as_slice(), first, lengths, leaves) {
         Some((first, second)) => Err(Fault::Overlap { first, second }),
         None => {
             fill(&mut words, first, leaves);

@@ -1,6 +1,6 @@
 use Rattle.std.proofs.Common.{◌≡◌, ap, map, take, sym, ◌∙◌}
 use Rattle.text_lines.specs.Words.{words}
-use Rattle.modules_conf.proofs.BindingLemmas.{Binds-none, Binds-row, RefusesRow-row}
+use Rattle.modules_conf.proofs.BindingLemmas.{Binds-row, RefusesRow-row}
 use Rattle.modules_conf.proofs.binding_reader.take_line.Goals as goal
 
 pub returns-in-Ok-clause-ok : goal.returns-in-Ok-clause-ok

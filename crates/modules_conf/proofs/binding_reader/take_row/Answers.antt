@@ -1,4 +1,4 @@
-use Rattle.std.proofs.Common.{◌≡◌, ap, length, map, sym, ◌∙◌, arith}
+use Rattle.std.proofs.Common.{ap, length, map, sym, ◌∙◌, arith}
 use Rattle.std.specs.List.{list_any}
 use Rattle.std.specs.Str.{bytes_eq}
 use Rattle.modules_conf.proofs.BindingLemmas.{with_row-twice, with_row-next}

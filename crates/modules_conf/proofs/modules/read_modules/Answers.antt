@@ -1,4 +1,4 @@
-use Rattle.std.proofs.Common.{◌≡◌, ap, sym, ◌∙◌, arith, [], Ok, length, ◌+◌}
+use Rattle.std.proofs.Common.{◌≡◌, ap, ◌∙◌, arith, Ok, ◌+◌}
 use Rattle.std.specs.List.{enumerate_from}
 use Rattle.text_lines.specs.Lines.{lines}
 use Rattle.modules_conf.specs.Modules.{conf_of}

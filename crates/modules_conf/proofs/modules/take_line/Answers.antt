@@ -1,7 +1,7 @@
-use Rattle.std.proofs.Common.{◌≡◌, ap, take, map, length, sym, ◌∙◌, Some, None}
+use Rattle.std.proofs.Common.{◌≡◌, ap, take, map, sym, ◌∙◌, None}
 use Rattle.std.proofs.lemmas.List.{length-map}
 use Rattle.std.proofs.lemmas.Bool.{eqb-true, eqb-false}
-use Rattle.modules_conf.specs.Modules.{conf_words, edge_line, alias_line}
+use Rattle.modules_conf.specs.Modules.{conf_words}
 use Rattle.modules_conf.proofs.LineLemmas.{edge_line-front, alias_line-front, words-none, words-some}
 use Rattle.modules_conf.proofs.ReadingLemmas.{Takes-empty, Takes-edge, Takes-alias, Takes-passed, Refuses-edge, Refuses-alias}
 use Rattle.modules_conf.proofs.modules.take_line.Goals as goal

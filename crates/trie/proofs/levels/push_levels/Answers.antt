@@ -10,8 +10,9 @@ returns-clause-size g c = c.loop-depth.invariant.size
 
 pub returns-clause-few : goal.returns-clause-few
 returns-clause-few g c =
-  let leaves = g.L.Leaves.leaves c.args.leaves.now in
-  let four : c.loop-depth.depth ≡ 4 = omega arith in
-  let base : c.loop-depth.base ≡ c.args.first + length (fronts leaves 4) = c.loop-depth.invariant.base ∙ ap (λ n. c.args.first + length (fronts leaves n)) four in
-  let few : c.loop-depth.base < 2 ^ 32 = omega (arith, c.loop-depth.invariant.few) in
-  subst (λ n. n < 2 ^ 32) base few
+    let leaves = g.L.Leaves.leaves c.args.leaves.now in
+    let four : c.loop-depth.depth ≡ 4 = omega arith in
+    let base : c.loop-depth.base ≡ c.args.first + length (fronts leaves 4) = c.loop-depth.invariant.base
+    ∙ ap (λ n. c.args.first + length (fronts leaves n)) four in
+    let few : c.loop-depth.base < 2 ^ 32 = omega (arith, c.loop-depth.invariant.few) in
+    subst (λ n. n < 2 ^ 32) base few

@@ -5,9 +5,16 @@ use Rattle.trie.specs.Stages.{marked_with}
 use Rattle.trie.specs.Words.{front_page}
 use Rattle.trie.proofs.Entries.{leaf_is}
 use Rattle.trie.proofs.Walks.{AreBytes}
-use Rattle.trie.proofs.Marking.{mark_step, short_step, unmarked_children}
+use Rattle.trie.proofs.Marking.{mark_step, short_step, unmarked_children, none_longer_marked}
 use Rattle.trie.proofs.marks.marks.Goals.{then-path-depth, else-path-depth}
 use Rattle.trie.proofs.marks.marks.Goals as goal
+
+pub returns-then-longest-depth : goal.returns-then-longest-depth
+returns-then-longest-depth g c =
+    c.in_ok-marked.ensures.items_if_clones_equal (λ y h. h)
+    ∙ none_longer_marked (g.L.Leaves.leaves c.args.leaves.now) c.args.depth c.args.longest
+    (c.args.count * 256) c.requires.longest
+    c.if-longest-depth.true (omega (arith, c.requires.count))
 
 pub loop-at-init : goal.loop-at-init
 loop-at-init g c =

@@ -13,7 +13,7 @@ returns-in-None-clause-value g c =
 pub returns-in-None-clause-stands : goal.returns-in-None-clause-stands
 returns-in-None-clause-stands g c =
     let leaves = g.L.Leaves.leaves c.args.leaves.now in
-    trie_stands leaves c.args.first c.args.words.items c.fill.new.words.items c.see_lengths.ensures
+    trie_stands leaves c.args.first c.args.words.items c.fill.new.words.items c.lengths_of-lengths.ensures.few
     c.in_ok-push_levels.ensures.few c.requires
     (words_are leaves c.args.first c.args.words.items c.push_levels.new.words.items c.fill.new.words.items
     c.requires
