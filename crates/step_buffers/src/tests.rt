@@ -84,34 +84,62 @@ fn is_same(one: &Whole, other: &Whole) -> bool {
     one.finish == other.finish && one.bytes == other.bytes
 }
 
-/// Points of one to four bytes; the same, cut off; an illegal byte behind a point; a mark; a surrogate
-/// cut off.
-const ROWS: [(Uni, Uni, &[u8]); 6] = [
-    (
-        Uni::Utf8,
-        Uni::Utf16,
-        &[0x41, 0xC3, 0xA9, 0xE3, 0x81, 0x82, 0xF0, 0x9F, 0x98, 0x80],
-    ),
-    (Uni::Utf8, Uni::Ucs4, &[0xE3, 0x81, 0x82, 0xF0, 0x9F, 0x98]),
-    (Uni::Utf8, Uni::Utf16Le, &[0x41, 0xC3, 0xC3, 0xA9, 0x42]),
-    (
-        Uni::Utf16,
-        Uni::Utf8,
-        &[0xFE, 0xFF, 0x30, 0x42, 0xD8, 0x3D, 0xDE, 0x00],
-    ),
-    (Uni::Utf16Be, Uni::Utf8, &[0x00, 0x41, 0xD8, 0x3D, 0xDE]),
-    (Uni::Utf8, Uni::Ascii, &[0x41, 0x42, 0xC3, 0xA9, 0x43]),
+const SETS: [Uni; 6] = [
+    Uni::Ascii,
+    Uni::Utf8,
+    Uni::Utf16,
+    Uni::Utf16Le,
+    Uni::Utf16Be,
+    Uni::Ucs4,
 ];
+
+/// Nothing; one byte; plain text; points of one to four bytes; the same, cut off; an overlong form and
+/// a surrogate in UTF-8; texts with marks of either order; a surrogate alone; UCS-4, and past its end.
+const INPUTS: [&[u8]; 12] = [
+    &[],
+    &[0x41],
+    &[0x70, 0x6C, 0x61, 0x69, 0x6E],
+    &[0x41, 0xC3, 0xA9, 0xE3, 0x81, 0x82, 0xF0, 0x9F, 0x98, 0x80],
+    &[0xE3, 0x81, 0x82, 0xF0, 0x9F, 0x98],
+    &[0x41, 0xC0, 0x80],
+    &[0x41, 0xED, 0xA0, 0x80],
+    &[0xFF, 0xFE, 0x41, 0x00, 0x3D, 0xD8, 0x00, 0xDE],
+    &[0xFE, 0xFF, 0x00, 0x41, 0xD8, 0x3D, 0xDE, 0x00],
+    &[0x3D, 0xD8, 0x41, 0x00],
+    &[0x00, 0x00, 0x00, 0x41, 0x00, 0x01, 0xF6, 0x00],
+    &[0x00, 0x10, 0xFF, 0xFF, 0x00, 0x11],
+];
+
+/// Whether an input gives the same in one piece, byte by byte, and in every cut into two.
+fn is_the_same_in_every_cut(
+    alloc: Global,
+    reader: Uni,
+    writer: Uni,
+    input: &[u8],
+) -> Result<bool, AllocError>
+    requires { length input.now ≤ 64 }
+{
+    let whole = in_two(alloc, reader, writer, input, &[])?;
+    if !is_same(&in_bytes(alloc, reader, writer, input)?, &whole) {
+        return Ok(false);
+    }
+    for cut in 0..input.len() {
+        let parts = in_two(alloc, reader, writer, &input[..cut], &input[cut..])?;
+        if !is_same(&parts, &whole) {
+            return Ok(false);
+        }
+    }
+    Ok(true)
+}
 
 #[test]
 fn cuts_change_nothing(rt: HostRuntime) -> Result<(), AllocError> {
-    for (reader, writer, input) in ROWS {
-        assert!(&rt; input.len() <= 64);
-        let whole = in_two(rt.alloc(), reader, writer, input, &[])?;
-        assert!(&rt; is_same(&in_bytes(rt.alloc(), reader, writer, input)?, &whole));
-        for cut in 0..input.len() {
-            let cut = in_two(rt.alloc(), reader, writer, &input[..cut], &input[cut..])?;
-            assert!(&rt; is_same(&cut, &whole));
+    for reader in SETS {
+        for writer in SETS {
+            for input in INPUTS {
+                assert!(&rt; input.len() <= 64);
+                assert!(&rt; is_the_same_in_every_cut(rt.alloc(), reader, writer, input)?);
+            }
         }
     }
     Ok(())
