@@ -4,7 +4,7 @@ use Rattle.module_graph.specs.declared.edge.Edge.{Edge}
 use Rattle.chain_search.specs.declared.chain.Chain.{Chain}
 use Rattle.chain_search.specs.Chains.{IsLeastChain, ordinals_of, cost_of}
 
--- the answer has the ordinals and the cost of the least chain from a to b
+-- The answer has the ordinals and the cost of the least chain from a to b.
 pub record TellsLeast (g : List Edge) (a b : ℕ) (answer : Chain) : Type 0 where
   pub edges : List Edge
   pub least : IsLeastChain g a b edges

@@ -4,37 +4,42 @@ use Rattle.chain_search.specs.declared.step.Step.{Step}
 use Rattle.chain_search.specs.declared.frontier.Open.{Open}
 use Rattle.chain_search.specs.Steps.{step_at}
 
--- the step s at v is open, and v isn't settled
+-- A node is open by a step where the step was offered to it and the node isn't settled.
 pub record IsOpen (known opened : List (Option Step)) (v : ℕ) (s : Step) : Type 0 where
   pub fresh : step_at known v ≡ None
   pub offer : step_at opened v ≡ Some s
 
--- the entry of an open step
+-- The entry of an open step in the queue.
 abbrev pub entry : ℕ → Step → Open
 entry v s = record { cost = s.cost; node = v }
 
--- the entry stands for the open step s
+-- An entry stands for an open step where its cost is that step's.
 abbrev pub IsOpenAt : List (Option Step) → List (Option Step) → Open → Step → Type 0
 IsOpenAt known opened k s = IsOpen known opened k.node s × (s.cost ≡ k.cost)
 
--- u has the cheapest open step, s
+-- A node has the cheapest open step.
 pub record IsCheapest (known opened : List (Option Step)) (u : ℕ) (s : Step) : Type 0 where
   pub within : u < length known
   pub here : IsOpen known opened u s
   pub cheapest : (v : ℕ) (t : Step) → IsOpen known opened v t → s.cost ≤ t.cost
 
--- no node is open
+-- No node is open.
 abbrev pub NoneOpen : List (Option Step) → List (Option Step) → Type 0
 NoneOpen known opened = (v : ℕ) (t : Step) → IsOpen known opened v t → ⊥
 
--- each open step has its entry in the queue
+-- Each open step has its entry in the queue.
 abbrev pub Covers : List (Option Step) → List (Option Step) → List Open → Type 0
-Covers known opened queue = (v : ℕ) (s : Step) → IsOpen known opened v s → Contains queue (entry v s)
+Covers known opened queue =
+    (v : ℕ) (s : Step) → IsOpen known opened v s → Contains queue (entry v s)
 
--- each open step but that of u does
+-- Each open step but that of one node has.
 abbrev pub CoversOthers : List (Option Step) → List (Option Step) → List Open → ℕ → Type 0
-CoversOthers known opened queue u = (v : ℕ) (s : Step) → v ≢ u → IsOpen known opened v s → Contains queue (entry v s)
+CoversOthers known opened queue u =
+    (v : ℕ) (s : Step) → v ≢ u → IsOpen known opened v s → Contains queue (entry v s)
 
--- each step of the new table has its entry in the new queue, unless it is an old one that had none in the old queue
+-- Each step of the new table has its entry in the new queue, unless it is an old step that had none
+-- in the old queue.
 abbrev pub KeepsCovered : List (Option Step) → List (Option Step) → List Open → List Open → Type 0
-KeepsCovered old new before after = (v : ℕ) (s : Step) → step_at new v ≡ Some s → (step_at old v ≡ Some s → Contains before (entry v s)) → Contains after (entry v s)
+KeepsCovered old new before after =
+    (v : ℕ) (s : Step) → step_at new v ≡ Some s
+    → (step_at old v ≡ Some s → Contains before (entry v s)) → Contains after (entry v s)

@@ -37,7 +37,8 @@ pub fn relax<L: Ledger>(
     requires cost { cost < 2 ^ 63 }
     requires len { len < 2 ^ 32 - 1 }
     ensures relaxed { OnOk result (Relaxes opened.old opened.new row.now cost len) }
-    ensures queued { OnOk result (KeepsCovered opened.old opened.new queue.old.keys queue.new.keys) }
+    ensures queued { OnOk result
+        (KeepsCovered opened.old opened.new queue.old.keys queue.new.keys) }
     ensures steps { steps.new ≤ steps.old + length row.now }
 {
     for edge in row {

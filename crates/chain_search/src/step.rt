@@ -2,7 +2,8 @@
 ghost use Rattle.std.specs.Prelude.{◌≡◌, ◌⊎◌, ◌↔◌, IsTrue, Some, false};
 ghost use Rattle.chain_search.specs.Steps.{NoGreater};
 
-/// The cost and the length of a chain, the ordinal of its first edge, and the node to which this leads.
+/// The cost and the length of a chain, the ordinal of its first edge, and the node to which that
+/// edge leads.
 #[derive(Clone, Copy, Debug)]
 pub struct Step {
     pub cost: u64,

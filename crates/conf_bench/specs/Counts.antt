@@ -4,7 +4,7 @@ use Rattle.modules_conf.specs.Modules.{conf_of}
 use Rattle.modules_conf.specs.declared.conf.Conf.{Conf}
 use Rattle.conf_bench.specs.declared.report.Report.{Report}
 
--- The report counts the module lines, the alias lines and the lines passed over of the text's configuration.
+-- A report counts the module lines, the alias lines and the lines passed over of a text.
 pub record CountsLines (text : List ℕ) (report : Report) : Type 0 where
   pub conf : Conf
   pub read : conf_of text ≡ Ok conf

@@ -21,4 +21,5 @@ pub record IsRoomy (d : Draft) : Type 0 where
 -- The kind goes last where it is new, and the number is its place; without a kind nothing changes.
 abbrev pub AddsKind : List Kind → List Kind → Option Kind → Option ℕ → Type 0
 AddsKind old new None number = (new ≡ old) × (number ≡ None)
-AddsKind old new (Some kind) number = (new ≡ insert_key same_kind old kind) × (number ≡ Some (position_or_len (same_kind kind) old))
+AddsKind old new (Some kind) number =
+    (new ≡ insert_key same_kind old kind) × (number ≡ Some (position_or_len (same_kind kind) old))

@@ -46,7 +46,9 @@ suits (Recode _ _) from to = not from && not to
 
 -- A module line has an edge by a kind where its ends are allowed and suit the kind.
 abbrev pub allows : EdgeLine → Kind → Bool
-allows line kind = may_end line.source && may_end line.target && suits kind (is_internal line.source) (is_internal line.target)
+allows line kind =
+    may_end line.source && may_end line.target
+    && suits kind (is_internal line.source) (is_internal line.target)
 
 -- The kind to which a module's name is bound.
 abbrev pub kind_bound : List Binding → List ℕ → Option Kind
@@ -56,13 +58,20 @@ abbrev pub if_allowed : EdgeLine → Option Kind → Option Kind
 if_allowed line None = None
 if_allowed line (Some kind) = if allows line kind then Some kind else None
 
--- The kind by which a module line gives an edge, if it gives one: its name is bound, and the kind is allowed.
+-- The kind by which a module line gives an edge, if it gives one: its module is bound, and the kind is
+-- allowed.
 abbrev pub kind_of_line : List Binding → EdgeLine → Option Kind
 kind_of_line bindings line = if_allowed line (kind_bound bindings line.«module»)
 
 -- The edge of a module line by a kind has an ordinal of 15 more than the line's number.
 abbrev pub edge_by : EdgeLine → Kind → NamedEdge
-edge_by line kind = record { ordinal = 15 + line.line; source = line.source; target = line.target; cost = line.cost; kind = Some kind }
+edge_by line kind = record {
+  ordinal = 15 + line.line;
+  source = line.source;
+  target = line.target;
+  cost = line.cost;
+  kind = Some kind;
+}
 
 abbrev pub edge_of_line : List Binding → EdgeLine → Option NamedEdge
 edge_of_line bindings line = option_map (edge_by line) (kind_of_line bindings line)

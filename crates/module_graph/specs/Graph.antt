@@ -3,7 +3,8 @@ use Rattle.std.specs.Prelude.{ℕ, ◌<◌, ◌^◌, ◌==◌, List, length, fil
 use Rattle.modules_conf.specs.declared.kind.Kind.{Kind}
 use Rattle.module_graph.specs.declared.edge.Edge.{Edge}
 
--- A graph: its nodes by name, its edges by rising ordinal, its modules by kind, and how many module lines gave no edge.
+-- A graph is its nodes by name, its edges by rising ordinal, its modules by kind, and the number of
+-- module lines that gave no edge.
 pub record Shape : Type 0 where
   pub nodes : List (List ℕ)
   pub edges : List Edge

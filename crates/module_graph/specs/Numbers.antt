@@ -11,10 +11,11 @@ use Rattle.module_graph.specs.declared.edge.Edge.{Edge}
 use Rattle.module_graph.specs.Edges.{NamedEdge, named_edges, skipped_lines}
 use Rattle.module_graph.specs.Graph.{Shape}
 
--- A list, and the elements of another in the order of their first appearance there, those left out that the list has.
+-- A list, and behind it the elements of another that are new, in the order of their first appearance.
 abbrev pub with_new : {X : Type 0} → (X → X → Bool) → List X → List X → List X
 with_new same seen [] = seen
-with_new same seen (x ∷ xs) = with_new same (if list_any (same x) seen then seen else seen ++ x ∷ []) xs
+with_new same seen (x ∷ xs) =
+    with_new same (if list_any (same x) seen then seen else seen ++ x ∷ []) xs
 
 -- Kinds are the same where they are of one sort and have the same charmap words.
 abbrev pub same_kind : Kind → Kind → Bool
@@ -36,7 +37,7 @@ node_names edges = with_new bytes_eq [] (flat_map (λ e. e.source ∷ e.target �
 abbrev pub is_end : List NamedEdge → List ℕ → Bool
 is_end edges name = list_any (λ e. bytes_eq name e.source || bytes_eq name e.target) edges
 
--- The modules are the kinds seen before, and the new ones of the edges in the order of their first appearance.
+-- The modules are the kinds seen before, and behind them the new ones of the edges.
 abbrev pub kinds_after : List Kind → List NamedEdge → List Kind
 kinds_after seen edges = with_new same_kind seen (filter_map (λ e. e.kind) edges)
 

@@ -3,7 +3,8 @@ ghost use Rattle.std.specs.Prelude.{◌≡◌, ℕ, List, IfOk};
 ghost use Rattle.std.specs.HashMap.{get};
 ghost use Rattle.std.specs.Option.{option_copied};
 ghost use Rattle.std.specs.Str.{bytes_eq};
-ghost use Rattle.module_graph.specs.Edges.{kind_bound, kind_of_line, allows, suits, may_end, is_internal};
+ghost use Rattle.module_graph.specs.Edges.{kind_bound, kind_of_line};
+ghost use Rattle.module_graph.specs.Edges.{allows, suits, may_end, is_internal};
 
 use modules_conf::{Binding, EdgeLine, Kind};
 use names_alias::{Name, Word, internal, is_builtin};
@@ -12,7 +13,8 @@ use std::collections::HashMap;
 
 /// The kind of each bound name.
 pub fn kinds_by_name(alloc: Global, bindings: &[Binding]) -> Result<HashMap<Word, Kind>, AllocError>
-    ensures { IfOk result (λ kinds. (name : List ℕ) → get bytes_eq kinds name ≡ kind_bound bindings.now name) }
+    ensures { IfOk result (λ kinds. (name : List ℕ)
+        → get bytes_eq kinds name ≡ kind_bound bindings.now name) }
 {
     let mut kinds = HashMap::new(alloc);
     for binding in bindings {

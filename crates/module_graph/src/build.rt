@@ -4,7 +4,8 @@ ghost use Rattle.std.specs.List.{filter_map};
 ghost use Rattle.std.specs.HashMap.{get};
 ghost use Rattle.std.specs.Str.{bytes_eq};
 ghost use Rattle.modules_conf.specs.Limits.{IsWithinLimits};
-ghost use Rattle.module_graph.specs.Edges.{NamedEdge, builtin_edges, named_edges, skipped_lines, kind_bound, kind_of_line, edge_of_line};
+ghost use Rattle.module_graph.specs.Edges.{NamedEdge, builtin_edges, named_edges, skipped_lines};
+ghost use Rattle.module_graph.specs.Edges.{kind_bound, kind_of_line, edge_of_line};
 ghost use Rattle.module_graph.specs.Drafts.{IsDraft, IsRoomy};
 
 use crate::bound::{kind_of, kinds_by_name};
@@ -43,7 +44,8 @@ fn add_line(
     requires room { IsRoomy draft.old }
     requires line { line.now.line < 2 ^ 31 }
     ensures { IfOk result (λ added. (bindings : List Binding) (before : List NamedEdge)
-        → ((name : List ℕ) → get bytes_eq kinds.now name ≡ kind_bound bindings name) → IsDraft before draft.old
+        → ((name : List ℕ) → get bytes_eq kinds.now name ≡ kind_bound bindings name)
+        → IsDraft before draft.old
         → (added ≡ is_some (kind_of_line bindings line.now))
         × IsDraft (before ++ filter_map (edge_of_line bindings) (line.now ∷ [])) draft.new) }
 {

@@ -38,7 +38,7 @@ fn number_of_kind(
     kind: Option<&Kind>,
 ) -> Result<Option<u32>, AllocError>
     requires { length kinds.old.keys < 2 ^ 31 }
-    ensures { IfOk result (λ n. AddsKind kinds.old.keys kinds.new.keys (option_copied kind.entry) n) }
+    ensures { IfOk result (AddsKind kinds.old.keys kinds.new.keys (option_copied kind.entry)) }
 {
     let Some(kind) = kind else {
         return Ok(None);

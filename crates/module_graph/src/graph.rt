@@ -30,26 +30,27 @@ pub struct Graph {
 
 impl Model for Graph {
     ghost use Rattle.module_graph.specs.Graph.{Shape};
-    ghost use Rattle.module_graph.specs.Rows.{IsIndexed};
+    ghost use Rattle.module_graph.specs.Rows.{shape, IsIndexed};
 
     ghost Value = { Shape };
 
-    ghost view = { λ g. record { nodes = g.names.keys; edges = g.edges.items; kinds = g.kinds.keys; skipped = g.skipped } };
+    ghost view = { λ g. shape g.names.keys g.edges.items g.kinds.keys g.skipped };
 
-    ghost invariant = { λ g. IsIndexed (record { nodes = g.names.keys; edges = g.edges.items; kinds = g.kinds.keys; skipped = g.skipped }) g.rows.items };
+    ghost invariant = { λ g. IsIndexed (shape g.names.keys g.edges.items g.kinds.keys g.skipped) g.rows.items };
 }
 
 impl Graph {
     /// The graph of the built-in edges and of each module line that gives an edge.
     ///
-    /// A module line gives one where its module is bound, no end of it is a built-in set other than
-    /// INTERNAL, and the ends suit the module's kind. Its ordinal is 15 more than its line's number.
+    /// A module line gives one where its module is bound, no end of it is a built-in set other
+    /// than INTERNAL, and the ends suit the module's kind. Its ordinal is 15 more than its line's
+    /// number.
     pub fn build(alloc: Global, conf: &Conf, bindings: &Bindings) -> Result<Graph, AllocError>
         requires { IsWithinLimits conf.now.edges }
         ensures value { IfOk result (λ graph. graph ≡ graph_of conf.now.edges bindings.now) }
         // A name is a node exactly where it is an end of an edge.
-        ensures ends { IfOk result (λ graph. (name : List ℕ)
-            → list_any (bytes_eq name) graph.nodes ≡ is_end (named_edges conf.now.edges bindings.now) name) }
+        ensures ends { IfOk result (λ graph. (name : List ℕ) → list_any (bytes_eq name) graph.nodes
+            ≡ is_end (named_edges conf.now.edges bindings.now) name) }
     {
         let (draft, skipped) = drafted(alloc, conf.edges.as_slice(), bindings.as_slice())?;
         let Draft {

@@ -1,7 +1,8 @@
 //! The graph of conversions that a configuration and its bindings stand for.
 //!
-//! Its nodes are names of sets, its edges conversions between them. Six sets are built in, each with
-//! an edge to `INTERNAL//` and one from it; the module lines of the configuration give the others.
+//! Its nodes are names of sets, its edges conversions between them. Six sets are built in, each
+//! with an edge to `INTERNAL//` and one from it; the module lines of the configuration give the
+//! others.
 #![tactic(auto)]
 
 mod bound;

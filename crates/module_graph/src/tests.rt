@@ -65,8 +65,12 @@ fn numbers_what_three_lines_say(rt: HostRuntime) -> Result<(), Fail> {
 
 #[test]
 fn keeps_kinds_and_passes_lines_over(rt: HostRuntime) -> Result<(), Fail> {
-    let text =
-        b"module SC// INTERNAL TC 1\nmodule SA// INTERNAL TA\nmodule SD// INTERNAL NOPE 1\nmodule UTF-8// SA// DIR\nmodule SA// INTERNAL DIR\nmodule SA// SC// TA\n";
+    let text = b"module SC// INTERNAL TC 1\n\
+        module SA// INTERNAL TA\n\
+        module SD// INTERNAL NOPE 1\n\
+        module UTF-8// SA// DIR\n\
+        module SA// INTERNAL DIR\n\
+        module SA// SC// TA\n";
     let graph = graph(&rt, rt.alloc(), text)?;
     assert_eq!(rt;
         (graph.edges().len(), graph.modules(), graph.skipped()),

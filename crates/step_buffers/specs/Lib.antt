@@ -2,4 +2,3 @@ pub mod Held
 pub mod Stands
 pub mod Ends
 pub mod Sound
-pub mod EmptyTable

@@ -1,47 +1,39 @@
 //! Streams in pieces as their callers convert them.
 
-ghost use Rattle.std.specs.Prelude.{◌≡◌, ◌≤◌, [], ◌∷◌, length};
-ghost use Rattle.step_buffers.specs.EmptyTable.{empty_tables};
+ghost use Rattle.std.specs.Prelude.{◌≡◌, ◌+◌, ◌≤◌, length};
+ghost use Rattle.code_pairs.specs.Tables.{Tables};
+ghost use Rattle.chain_steps.specs.Chains.{CanRun};
 
 use crate::{Fed, Finish, Session, Whole};
 use chain_steps::{Bound, Joints, Recipe, Runner, Set};
-use code_pairs::Code;
-use code_table::{Look, Lookup};
+use code_table::Owned;
 use std::alloc::{AllocError, Global};
 use step_unicode::Uni;
 
-/// One table, which is empty.
-#[derive(Drop)]
-struct NoCodes;
-
-impl Lookup for NoCodes {
-    ghost tables = { λ _. [] ∷ [] };
-
-    ghost ready = { λ _. Unit {0} };
-
-    ghost kept = { λ _ _. Unit {0} };
-
-    fn code(&mut self, _table: u32, _bytes: &[u8]) -> Look {
-        Look::Nothing
-    }
-
-    fn bytes(&mut self, _table: u32, _point: u32) -> Option<Code> {
-        None
-    }
-
-    ghost well_formed = { λ _ k _. empty_tables k };
-
-    ghost kept_none = { λ _. tt };
-
-    ghost kept_twice = { λ _ _ _ _ _. tt };
-}
-
-fn runner(alloc: Global, reader: Uni, writer: Uni) -> Runner {
+/// A chain between two sets without a table.
+fn runner(alloc: Global, reader: Uni, writer: Uni) -> Runner
+    ensures { (ts : Tables) → CanRun ts result.recipe }
+{
     Runner::new(Recipe {
         reader: Set::Unicode(reader),
         joints: Joints::none(alloc),
         writer: Set::Unicode(writer),
     })
+}
+
+/// Feeds a piece over no tables.
+fn feed<'a>(
+    session: &mut Session,
+    bound: &mut Bound<'a, Owned>,
+    piece: &[u8],
+) -> Result<Fed, AllocError>
+    requires range { (ts : Tables) → CanRun ts bound.old.runner.now.recipe }
+    requires piece { length piece.now ≤ 64 }
+    requires taken { session.old.taken ≤ 4096 }
+    ensures range { (ts : Tables) → CanRun ts bound.new.runner.now.recipe }
+    ensures taken { session.new.taken ≤ session.old.taken + length piece.now }
+{
+    session.feed(bound, piece)
 }
 
 /// The conversion of a stream that comes in two pieces.
@@ -56,14 +48,16 @@ fn in_two(
     requires second { length second.now ≤ 64 }
 {
     let mut runner = runner(alloc, reader, writer);
-    let mut tables = NoCodes;
+    let mut tables = Owned {
+        tables: Vec::new(alloc),
+    };
     let mut bound = Bound {
         runner: &mut runner,
         tables: &mut tables,
     };
     let mut session = Session::new(alloc)?;
-    let _ = session.feed(&mut bound, first)?;
-    let _ = session.feed(&mut bound, second)?;
+    let _ = feed(&mut session, &mut bound, first)?;
+    let _ = feed(&mut session, &mut bound, second)?;
     Ok(session.finish(&mut bound))
 }
 
@@ -72,14 +66,16 @@ fn in_bytes(alloc: Global, reader: Uni, writer: Uni, input: &[u8]) -> Result<Who
     requires { length input.now ≤ 64 }
 {
     let mut runner = runner(alloc, reader, writer);
-    let mut tables = NoCodes;
+    let mut tables = Owned {
+        tables: Vec::new(alloc),
+    };
     let mut bound = Bound {
         runner: &mut runner,
         tables: &mut tables,
     };
     let mut session = Session::with_room(alloc, input.len() as u64)?;
     for byte in input {
-        let _ = session.feed(&mut bound, &[*byte])?;
+        let _ = feed(&mut session, &mut bound, &[*byte])?;
     }
     Ok(session.finish(&mut bound))
 }
@@ -88,34 +84,62 @@ fn is_same(one: &Whole, other: &Whole) -> bool {
     one.finish == other.finish && one.bytes == other.bytes
 }
 
-/// Points of one to four bytes; the same, cut off; an illegal byte behind a point; a mark; a surrogate
-/// cut off.
-const ROWS: [(Uni, Uni, &[u8]); 6] = [
-    (
-        Uni::Utf8,
-        Uni::Utf16,
-        &[0x41, 0xC3, 0xA9, 0xE3, 0x81, 0x82, 0xF0, 0x9F, 0x98, 0x80],
-    ),
-    (Uni::Utf8, Uni::Ucs4, &[0xE3, 0x81, 0x82, 0xF0, 0x9F, 0x98]),
-    (Uni::Utf8, Uni::Utf16Le, &[0x41, 0xC3, 0xC3, 0xA9, 0x42]),
-    (
-        Uni::Utf16,
-        Uni::Utf8,
-        &[0xFE, 0xFF, 0x30, 0x42, 0xD8, 0x3D, 0xDE, 0x00],
-    ),
-    (Uni::Utf16Be, Uni::Utf8, &[0x00, 0x41, 0xD8, 0x3D, 0xDE]),
-    (Uni::Utf8, Uni::Ascii, &[0x41, 0x42, 0xC3, 0xA9, 0x43]),
+const SETS: [Uni; 6] = [
+    Uni::Ascii,
+    Uni::Utf8,
+    Uni::Utf16,
+    Uni::Utf16Le,
+    Uni::Utf16Be,
+    Uni::Ucs4,
 ];
+
+/// Nothing; one byte; plain text; points of one to four bytes; the same, cut off; an overlong form and
+/// a surrogate in UTF-8; texts with marks of either order; a surrogate alone; UCS-4, and past its end.
+const INPUTS: [&[u8]; 12] = [
+    &[],
+    &[0x41],
+    &[0x70, 0x6C, 0x61, 0x69, 0x6E],
+    &[0x41, 0xC3, 0xA9, 0xE3, 0x81, 0x82, 0xF0, 0x9F, 0x98, 0x80],
+    &[0xE3, 0x81, 0x82, 0xF0, 0x9F, 0x98],
+    &[0x41, 0xC0, 0x80],
+    &[0x41, 0xED, 0xA0, 0x80],
+    &[0xFF, 0xFE, 0x41, 0x00, 0x3D, 0xD8, 0x00, 0xDE],
+    &[0xFE, 0xFF, 0x00, 0x41, 0xD8, 0x3D, 0xDE, 0x00],
+    &[0x3D, 0xD8, 0x41, 0x00],
+    &[0x00, 0x00, 0x00, 0x41, 0x00, 0x01, 0xF6, 0x00],
+    &[0x00, 0x10, 0xFF, 0xFF, 0x00, 0x11],
+];
+
+/// Whether an input gives the same in one piece, byte by byte, and in every cut into two.
+fn is_the_same_in_every_cut(
+    alloc: Global,
+    reader: Uni,
+    writer: Uni,
+    input: &[u8],
+) -> Result<bool, AllocError>
+    requires { length input.now ≤ 64 }
+{
+    let whole = in_two(alloc, reader, writer, input, &[])?;
+    if !is_same(&in_bytes(alloc, reader, writer, input)?, &whole) {
+        return Ok(false);
+    }
+    for cut in 0..input.len() {
+        let parts = in_two(alloc, reader, writer, &input[..cut], &input[cut..])?;
+        if !is_same(&parts, &whole) {
+            return Ok(false);
+        }
+    }
+    Ok(true)
+}
 
 #[test]
 fn cuts_change_nothing(rt: HostRuntime) -> Result<(), AllocError> {
-    for (reader, writer, input) in ROWS {
-        assert!(&rt; input.len() <= 64);
-        let whole = in_two(rt.alloc(), reader, writer, input, &[])?;
-        assert!(&rt; is_same(&in_bytes(rt.alloc(), reader, writer, input)?, &whole));
-        for cut in 0..input.len() {
-            let cut = in_two(rt.alloc(), reader, writer, &input[..cut], &input[cut..])?;
-            assert!(&rt; is_same(&cut, &whole));
+    for reader in SETS {
+        for writer in SETS {
+            for input in INPUTS {
+                assert!(&rt; input.len() <= 64);
+                assert!(&rt; is_the_same_in_every_cut(rt.alloc(), reader, writer, input)?);
+            }
         }
     }
     Ok(())
@@ -124,17 +148,19 @@ fn cuts_change_nothing(rt: HostRuntime) -> Result<(), AllocError> {
 #[test]
 fn a_point_comes_in_four_pieces(rt: HostRuntime) -> Result<(), AllocError> {
     let mut runner = runner(rt.alloc(), Uni::Utf8, Uni::Utf16Be);
-    let mut tables = NoCodes;
+    let mut tables = Owned {
+        tables: Vec::new(rt.alloc()),
+    };
     let mut bound = Bound {
         runner: &mut runner,
         tables: &mut tables,
     };
     let mut session = Session::new(rt.alloc())?;
-    assert!(&rt; session.feed(&mut bound, &[0xF0])? == Fed::Going);
-    assert!(&rt; session.feed(&mut bound, &[0x9F])? == Fed::Going);
-    assert!(&rt; session.feed(&mut bound, &[0x98])? == Fed::Going);
+    assert!(&rt; feed(&mut session, &mut bound, &[0xF0])? == Fed::Going);
+    assert!(&rt; feed(&mut session, &mut bound, &[0x9F])? == Fed::Going);
+    assert!(&rt; feed(&mut session, &mut bound, &[0x98])? == Fed::Going);
     assert!(&rt; session.output().is_empty());
-    assert!(&rt; session.feed(&mut bound, &[0x80])? == Fed::Going);
+    assert!(&rt; feed(&mut session, &mut bound, &[0x80])? == Fed::Going);
     assert!(&rt; session.output() == [0xD8, 0x3D, 0xDE, 0x00].as_slice());
     let whole = session.finish(&mut bound);
     assert!(&rt; whole.finish == Finish::Done);

@@ -6,6 +6,7 @@ ghost use Rattle.code_pairs.specs.Tables.{IsWellFormed};
 ghost use Rattle.step_iso2022jp.specs.Shifts.{IsShiftState};
 
 use crate::{close_shift, read_unit, write, write_unit};
+use charmap_reader::Charmap;
 use code_pairs::{Code, Pair};
 use code_table::{CodeTable, Owned};
 use std::alloc::Global;
@@ -66,14 +67,14 @@ fn roman_table(alloc: Global) -> Result<CodeTable, Fail>
     ensures { IfOk result IsWellFormed }
 {
     let pairs = vec![in alloc; make_pair(0xA5, &[0x5C]), make_pair(0x203E, &[0x7E])]?;
-    Ok(CodeTable::of_pairs(alloc, &pairs)?)
+    Ok(CodeTable::build(alloc, &Charmap { pairs })?)
 }
 
 fn kanji_table(alloc: Global) -> Result<CodeTable, Fail>
     ensures { IfOk result IsWellFormed }
 {
     let pairs = vec![in alloc; make_pair(0x3042, &[0x24, 0x22]), make_pair(0xFF, &[0x30])]?;
-    Ok(CodeTable::of_pairs(alloc, &pairs)?)
+    Ok(CodeTable::build(alloc, &Charmap { pairs })?)
 }
 
 fn two_tables(alloc: Global) -> Result<Owned, Fail> {

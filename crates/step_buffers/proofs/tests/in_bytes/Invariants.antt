@@ -1,8 +1,10 @@
-use Rattle.std.proofs.Common.{◌≡◌, ◌≤◌}
+use Rattle.std.proofs.Common.{◌≤◌}
+use Rattle.code_pairs.specs.Tables.{Tables}
+use Rattle.chain_steps.specs.Chains.{CanRun}
 use Rattle.step_buffers.proofs.tests.in_bytes.Given as goal
 
 abbrev pub invariant-loop-byte : goal.invariant-loop-byte
 invariant-loop-byte l = record {
   taken : l.session.taken ≤ l.byte-index;
-  recipe : l.bound.runner.now.recipe ≡ l.initial.bound.runner.now.recipe;
+  runs : (ts : Tables) → CanRun ts l.bound.runner.now.recipe;
 }

@@ -1,13 +1,12 @@
-use Rattle.std.proofs.Common.{◌≡◌, ◌≢◌, ◌+◌, ◌*◌, ◌<◌, ◌≤◌, length, take, refl, arith, sym, ◌∙◌, ap}
+use Rattle.std.proofs.Common.{◌≡◌, ◌≢◌, ◌+◌, ◌<◌, ◌≤◌, length, take, refl, arith, sym, ◌∙◌}
 use Rattle.std.proofs.lemmas.Bool.{false≢true}
-use Rattle.std.proofs.lemmas.List.{length-take-le}
 use Rattle.code_pairs.specs.Tables.{Tables}
 use Rattle.unit_relations.specs.declared.verdict.Verdict.TheVariants.{Full}
 use Rattle.chain_steps.specs.Machine.{Machine}
 use Rattle.chain_steps.specs.Sets.{AreWellFormed}
 use Rattle.chain_steps.specs.Chains.{ChainConverts}
 use Rattle.chain_steps.proofs.Steps.{left}
-use Rattle.step_buffers.proofs.Scratch.{IsMade, moved_call, made_little, call_little, full_moves, made_on, made_whole, left_short, length-left, made_nothing}
+use Rattle.step_buffers.proofs.Scratch.{moved_call, made_little, call_little, full_moves, made_on, made_whole, left_short, length-left, made_nothing}
 use Rattle.step_buffers.proofs.through.convert_through.Goals as goal
 
 pub loop-progress-init : goal.loop-progress-init

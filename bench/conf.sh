@@ -1,7 +1,7 @@
 #!/bin/sh
 # Times the reader of configurations, the graph and the search for least chains.
 #
-#   bench/conf [PROGRAM]
+#   bench/conf.sh [PROGRAM]
 #
 # PROGRAM is the built conf_bench: `rt ci conf_bench` leaves it in crates/conf_bench/out. The files of
 # the system are those of the GNU C Library's package; where they are absent, they are passed over
