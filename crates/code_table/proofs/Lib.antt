@@ -5,3 +5,4 @@ pub mod SameLooks
 pub mod PointPaths
 pub mod ImageLaws
 pub mod BuildLaws
+pub mod Raised

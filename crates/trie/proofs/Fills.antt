@@ -1,14 +1,14 @@
 -- Words put into pages.
-use Rattle.std.proofs.Common.{◌≡◌, ◌≢◌, ℕ, suc, ◌+◌, ◌*◌, ◌-◌, ◌^◌, ◌<◌, ◌≤◌, Bool, true, false, not, eqb, List, [], ◌∷◌, ◌++◌, length, get_or, take, set, Option, Some, None, refl, sym, ap, ◌∙◌, inl, inr, arith, length-append, length-set}
+use Rattle.std.proofs.Common.{◌≡◌, ◌≢◌, ℕ, zero, suc, ◌+◌, ◌*◌, ◌-◌, ◌^◌, ◌<◌, ◌≤◌, Bool, true, false, not, eqb, ltb, List, [], ◌∷◌, ◌++◌, length, get_or, take, set, Option, Some, None, refl, sym, ap, ◌∙◌, subst, inl, inr, arith, length-append, length-set}
 use Rattle.std.proofs.Math.Seq.{take-length}
 use Rattle.std.specs.Option.{option_or}
 use Rattle.std.specs.Str.{bytes_eq}
-use Rattle.std.proofs.lemmas.List.{take-set-le, get_or-set_same, get_or-set_other, length-take-le, take_more, get_or-take, length-take}
+use Rattle.std.proofs.lemmas.List.{take-set-le, get_or-set_same, get_or-set_other, length-take-le, take_more, get_or-take, get_or_past, length-take}
 use Rattle.std.proofs.lemmas.List.Folds.{list_any_at}
-use Rattle.std.proofs.lemmas.Bool.{cases_Bool, cases_eq, eq-eqb, ne_eqb}
+use Rattle.std.proofs.lemmas.Bool.{cases_Bool, cases_eq, eq-eqb, ne_eqb, ltb-true, ltb-false}
 use Rattle.trie.proofs.Stages.{Refers}
 use Rattle.trie.specs.Fronts.{AreShort, word_at, is_proper_prefix, is_front, level, fronts, pages}
-use Rattle.trie.specs.Stages.{ref_cell, IsStage, put_with, Holds, NoneGoesOn, word_behind, leads_on}
+use Rattle.trie.specs.Stages.{ref_cell, IsStage, put_with, put_run, Holds, NoneGoesOn, word_behind, leads_on}
 use Rattle.trie.specs.Trie.{place_of, cell, cell_word}
 use Rattle.trie.specs.Words.{front_page, word_in}
 use Rattle.trie.specs.Leaf.{Leaf}
@@ -19,6 +19,8 @@ use Rattle.trie.proofs.Distinct.{distinct_at, distinct_fronts, same_front}
 use Rattle.trie.proofs.Stages.{page_of}
 use Rattle.trie.proofs.Marking.{front_goes, take_bytes}
 use Rattle.trie.proofs.Numbers.{fronts_grow}
+use Rattle.trie.proofs.RunLaws.{length-raised, take-raised, get_or-raised, get_or-raised-front}
+use Rattle.trie.specs.Runs.{raised, later}
 
 -- one leaf more at the end
 word_same : (ls : List Leaf) (l : Leaf) (q : List ℕ) → l.path ≡ q →
@@ -243,3 +245,97 @@ front_is leaves first i d ws short st lt ok pos few =
     (ap (λ x. place_of x ps) whole ∙ n))
     (λ t. ap (λ x. place_of x ps) (sym whole)
     ∙ (placed leaves short).outside j byte v.2.within (ok m) (ap (is_front leaves) whole ∙ t))
+
+-- a front's page is the same with the words of some leaves as with those of others
+page_stays : (leaves : List Leaf) (first i j : ℕ) (ws vs q : List ℕ) → AreShort 4 leaves →
+    NoneGoesOn leaves → AreBytes q → length q ≤ 3 → is_front leaves q ≡ true →
+    Holds (take i leaves) leaves first ws → Holds (take j leaves) leaves first vs →
+    front_page vs first q ≡ front_page ws first q
+page_stays leaves first i j ws vs q short apart ok len goes h k =
+    let v = page_of leaves first 3 ws (omega arith) short (fill_refers leaves first i ws apart h) q 0
+    (some_page leaves) ok (omega (arith, len)) goes in
+    let u = page_of leaves first 3 vs (omega arith) short (fill_refers leaves first j vs apart k) q 0
+    (some_page leaves) ok (omega (arith, len)) goes in
+    let z : first ≡ first + 0 = omega arith in
+    let same : u.0 ≡ v.0 = distinct_at (pages leaves) u.0 v.0 (distinct_fronts leaves 4) u.2.within v.2.within
+    (u.2.there ∙ sym v.2.there) in
+    ap (λ n. front_page vs n q) z ∙ u.1 ∙ ap (λ n. Some (first + n)) same ∙ sym v.1
+    ∙ sym (ap (λ n. front_page ws n q) z)
+
+-- what holds after so many leaves of a run
+pub record RunPut (leaves : List Leaf) (first i n : ℕ) (before after : List ℕ) : Type 0 where
+  pub holds : Holds (take (i + n) leaves) leaves first after
+  pub size : length after ≡ length before
+  pub same : take (256 * first) after ≡ take (256 * first) before
+
+later_bytes : (m n : ℕ) (p : List ℕ) → length p ≡ m + 1 → AreBytes p → get_or p m 0 + n < 256 →
+    AreBytes (raised n p)
+later_bytes m n p len ok small j = elim (cases_eq j m) [
+  | inl e ↦ subst (λ k. get_or (raised n p) k 0 < 256) (sym e)
+      (subst (λ b. b < 256) (sym (get_or-raised n m p len)) small)
+  | inr ne ↦ elim (cases_Bool (ltb j m)) [
+    | inl t ↦ subst (λ b. b < 256) (sym (get_or-raised-front n m j p len (ltb-true j m t))) (ok j)
+    | inr f ↦ subst (λ b. b < 256)
+        (sym (get_or_past (raised n p) j 0
+        (omega (arith, ltb-false j m f, ne, length-raised n p, len)))) (omega arith)
+  ]
+]
+
+-- a run's leaves, one after the other
+pub run_step : (leaves : List Leaf) (first i m n : ℕ) (h : Leaf) (ws : List ℕ) → AreShort 4 leaves →
+    NoneGoesOn leaves → AreBytes h.path → length h.path ≡ m + 1 → m ≤ 3 → get_or h.path m 0 + n ≤ 256 →
+    i + n ≤ length leaves → ((k : ℕ) → k < n → get_or leaves (i + k) h ≡ later k h) →
+    length ws ≡ 256 * (first + length (pages leaves)) → Holds (take i leaves) leaves first ws →
+    RunPut leaves first i n ws
+    (put_run ws (front_page ws first (take m h.path)) (get_or h.path m 0) (2 ^ 62 + h.word) n)
+run_step leaves first i m zero h ws short apart ok len few room lt each size holds = record {
+  holds = subst (λ k. Holds (take k leaves) leaves first ws) (let e : i ≡ i + 0 = omega arith in e) holds;
+  size = refl;
+  same = refl;
+}
+run_step leaves first i m (suc n) h ws short apart ok len few room lt each size holds =
+    let page = front_page ws first (take m h.path) in
+    let byte = get_or h.path m 0 in
+    let w = 2 ^ 62 + h.word in
+    let r = run_step leaves first i m n h ws short apart ok len few (omega arith) (omega arith)
+    (λ k l. each k (omega arith)) size holds in
+    let vs = put_run ws page byte w n in
+    let l : get_or leaves (i + n) h ≡ later n h = each n (omega arith) in
+    let here : (get_or leaves (i + n) h).path ≡ raised n h.path = ap (λ (x : Leaf). x.path) l in
+    let word : (get_or leaves (i + n) h).word ≡ h.word + n = ap (λ (x : Leaf). x.word) l in
+    let bytes : AreBytes (get_or leaves (i + n) h).path = subst AreBytes (sym here)
+    (later_bytes m n h.path len ok (omega arith)) in
+    let long : length (get_or leaves (i + n) h).path ≡ m + 1 = ap length here ∙ length-raised n h.path ∙ len in
+    let front : take m (get_or leaves (i + n) h).path ≡ take m h.path = ap (take m) here
+    ∙ take-raised n m h.path len in
+    let last : get_or (get_or leaves (i + n) h).path m 0 ≡ byte + n = ap (λ p. get_or p m 0) here
+    ∙ get_or-raised n m h.path len in
+    let goes : is_front leaves (take m h.path) ≡ true =
+    ap (is_front leaves) (sym front)
+    ∙ list_any_at (λ (x : Leaf). is_proper_prefix (take m (get_or leaves (i + n) h).path) x.path) leaves (i + n) h (omega arith)
+    (front_goes m (get_or leaves (i + n) h).path (omega (arith, long))) in
+    let stays : front_page vs first (take m h.path) ≡ page =
+    page_stays leaves first i (i + n) ws vs (take m h.path) short apart (take_bytes m h.path ok)
+    (omega (arith, length-take-le m h.path (omega (arith, len)))) goes holds r.holds in
+    let put : put_with vs (front_page vs first (take m (get_or leaves (i + n) h).path))
+    (get_or (get_or leaves (i + n) h).path m 0) (2 ^ 62 + (get_or leaves (i + n) h).word)
+    ≡ put_with vs page (byte + n) (w + n) =
+    ap (λ q. put_with vs (front_page vs first q) (get_or (get_or leaves (i + n) h).path m 0)
+    (2 ^ 62 + (get_or leaves (i + n) h).word)) front
+    ∙ ap (λ o. put_with vs o (get_or (get_or leaves (i + n) h).path m 0) (2 ^ 62 + (get_or leaves (i + n) h).word)) stays
+    ∙ ap (λ b. put_with vs page b (2 ^ 62 + (get_or leaves (i + n) h).word)) last
+    ∙ ap (λ x. put_with vs page (byte + n) x)
+    (let e : 2 ^ 62 + (get_or leaves (i + n) h).word ≡ w + n = omega (arith, word) in e) in
+    record {
+      holds = subst (λ x. Holds (take (i + suc n) leaves) leaves first x) put
+          (subst (λ k. Holds (take k leaves) leaves first (put_with vs
+          (front_page vs first (take m (get_or leaves (i + n) h).path))
+          (get_or (get_or leaves (i + n) h).path m 0) (2 ^ 62 + (get_or leaves (i + n) h).word)))
+          (let e : i + n + 1 ≡ i + suc n = omega arith in e)
+          (fill_step leaves first (i + n) m h vs short apart (omega arith) bytes long few
+          (r.size ∙ size) r.holds));
+      size = length-put vs page (byte + n) (w + n) ∙ r.size;
+      same = ap (take (256 * first)) (sym put)
+          ∙ fill_keeps leaves first (i + n) m h vs short apart (omega arith) bytes long few r.holds
+          ∙ r.same;
+    }

@@ -13,3 +13,4 @@ pub mod Entries
 pub mod Overlapping
 pub mod Firsts
 pub mod Saying
+pub mod RunLaws

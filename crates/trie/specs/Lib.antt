@@ -1,5 +1,6 @@
 pub mod Leaf
 pub mod Fronts
+pub mod Runs
 pub mod Trie
 pub mod Words
 pub mod Look

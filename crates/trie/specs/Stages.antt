@@ -1,5 +1,5 @@
 -- The pages of a trie while they are built.
-use Rattle.std.specs.Prelude.{◌≡◌, ◌<◌, ◌≤◌, ℕ, suc, ◌+◌, ◌*◌, ◌-◌, ◌^◌, Bool, true, false, not, ◌==◌, if◌then◌else◌, List, [], ◌∷◌, ◌++◌, length, get_or, slice_set, take, Option, Some, None}
+use Rattle.std.specs.Prelude.{◌≡◌, ◌<◌, ◌≤◌, ℕ, zero, suc, ◌+◌, ◌*◌, ◌-◌, ◌^◌, Bool, true, false, not, ◌==◌, if◌then◌else◌, List, [], ◌∷◌, ◌++◌, length, get_or, slice_set, take, Option, Some, None}
 use Rattle.trie.specs.Leaf.{Leaf}
 use Rattle.trie.specs.Fronts.{is_front, fronts, pages}
 use Rattle.trie.specs.Trie.{place_of, cell_word, cell}
@@ -30,6 +30,11 @@ marked_with ms (Some page) base byte = slice_set ms (256 * (page - base) + byte)
 abbrev pub put_with : List ℕ → Option ℕ → ℕ → ℕ → List ℕ
 put_with ws None byte w = ws
 put_with ws (Some page) byte w = if word_in ws page byte == 0 then slice_set ws (256 * page + byte) w else ws
+
+-- The words with so many more, which grow by one from place to place.
+abbrev pub put_run : List ℕ → Option ℕ → ℕ → ℕ → ℕ → List ℕ
+put_run ws page byte w zero = ws
+put_run ws page byte w (suc n) = put_with (put_run ws page byte w n) page (byte + n) (w + n)
 
 -- The words are, from a page on, the pages of the fronts of all leaves, with the words of some of them.
 pub record Holds (leaves all : List Leaf) (first : ℕ) (ws : List ℕ) : Type 0 where

@@ -1,14 +1,17 @@
 //! The words that paths lead to, put into their pages.
 
-ghost use Rattle.std.specs.Prelude.{◌≡◌, ◌+◌, ◌*◌, take, length};
+ghost use Rattle.std.specs.Prelude.{◌≡◌, ◌≤◌, ◌<◌, ◌+◌, ◌-◌, ◌*◌, ◌^◌, take, length, get_or};
 ghost use Rattle.trie.specs.Fronts.{AreShort, pages};
-ghost use Rattle.trie.specs.Stages.{IsStage, Holds, NoneGoesOn, put_with};
+ghost use Rattle.trie.specs.Runs.{all_of};
+ghost use Rattle.trie.specs.Stages.{IsStage, Holds, NoneGoesOn, put_with, put_run};
+ghost use Rattle.trie.specs.Words.{front_page};
 
-use crate::entry::Leaves;
 use crate::marks::front_page;
+use crate::run::Run;
 use crate::words::HIT;
 
 /// Puts a word where there is a page and no word yet.
+#[inline(always)]
 fn put(words: &mut Vec<u64>, page: Option<u32>, byte: u8, word: u64)
     ensures { words.new.items ≡ put_with words.old.items page byte word }
 {
@@ -20,21 +23,32 @@ fn put(words: &mut Vec<u64>, page: Option<u32>, byte: u8, word: u64)
     }
 }
 
+/// Puts words that grow by one, so many of them, from a byte of a page on.
+fn put_run(words: &mut Vec<u64>, page: Option<u32>, byte: u8, word: u64, count: usize)
+    requires room { byte + count ≤ 256 }
+    requires small { word + count < 2 ^ 64 }
+    ensures { words.new.items ≡ put_run words.old.items page byte word count }
+{
+    for more in 0..count {
+        put(words, page, byte + more as u8, word + more as u64);
+    }
+}
+
 /// Puts each path's first word.
-pub fn fill<L: Leaves>(words: &mut Vec<u64>, first: u32, leaves: &L)
-    requires stage { IsStage (L.leaves leaves.now) first 4 words.old.items }
-    requires short { AreShort 4 (L.leaves leaves.now) }
-    requires apart { NoneGoesOn (L.leaves leaves.now) }
-    requires size { length words.old.items ≡ 256 * (first + length (pages (L.leaves leaves.now))) }
-    ensures holds { Holds (L.leaves leaves.now) (L.leaves leaves.now) first words.new.items }
+pub fn fill(words: &mut Vec<u64>, first: u32, runs: &[Run])
+    requires stage { IsStage (all_of runs.now) first 4 words.old.items }
+    requires short { AreShort 4 (all_of runs.now) }
+    requires apart { NoneGoesOn (all_of runs.now) }
+    requires size { length words.old.items ≡ 256 * (first + length (pages (all_of runs.now))) }
+    ensures holds { Holds (all_of runs.now) (all_of runs.now) first words.new.items }
     ensures size { length words.new.items ≡ length words.old.items }
     ensures same { take (256 * first) words.new.items ≡ take (256 * first) words.old.items }
 {
-    for at in 0..leaves.count() {
-        let entry = leaves.leaf(at);
-        let path = entry.path();
+    for run in runs {
+        let head = run.head();
+        let path = head.path();
         let last = path.len() - 1;
         let page = front_page(words.as_slice(), first, &path[..last]);
-        put(words, page, path[last], HIT + entry.word());
+        put_run(words, page, path[last], HIT + head.word(), run.count());
     }
 }

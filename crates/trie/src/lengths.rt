@@ -1,8 +1,9 @@
 //! How long paths are.
 
 ghost use Rattle.trie.specs.Fronts.{AreLong, AreShort};
+ghost use Rattle.trie.specs.Runs.{heads};
 
-use crate::entry::Leaves;
+use crate::run::Run;
 
 /// The lengths of a shortest and of a longest path.
 #[derive(Clone, Copy)]
@@ -11,17 +12,16 @@ pub struct Lengths {
     pub longest: usize,
 }
 
-/// The lengths that the paths have.
-pub fn lengths_of<L: Leaves>(leaves: &L) -> Lengths
-    ensures few { AreShort 4 (L.leaves leaves.now) }
-    ensures short { AreShort result.longest (L.leaves leaves.now) }
-    ensures long { AreLong result.shortest (L.leaves leaves.now) }
+/// The lengths of the heads' paths, which are those of all paths.
+pub fn lengths_of(runs: &[Run]) -> Lengths
+    ensures few { AreShort 4 (heads runs.now) }
+    ensures short { AreShort result.longest (heads runs.now) }
+    ensures long { AreLong result.shortest (heads runs.now) }
 {
     let mut shortest = 4;
     let mut longest = 0;
-    for at in 0..leaves.count() {
-        let entry = leaves.leaf(at);
-        let len = entry.path().len();
+    for run in runs {
+        let len = run.head().path().len();
         shortest = len.min(shortest);
         longest = len.max(longest);
     }

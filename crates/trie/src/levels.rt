@@ -2,14 +2,15 @@
 
 ghost use Rattle.std.specs.Prelude.{◌≡◌, ◌≤◌, ◌<◌, ◌+◌, ◌*◌, ◌^◌, take, length, IfOk, OnOk};
 ghost use Rattle.trie.specs.Fronts.{AreShort, level, fronts};
+ghost use Rattle.trie.specs.Runs.{heads};
 ghost use Rattle.trie.specs.Stages.{IsStage};
 
-use crate::entry::Leaves;
 use crate::marks::{mark_count, marks, push_numbered};
+use crate::run::Run;
 use std::alloc::{AllocError, Global};
 
 /// Appends the pages of a level, and answers how many the next one has.
-fn push_level<L: Leaves>(
+fn push_level(
     alloc: Global,
     words: &mut Vec<u64>,
     first: u32,
@@ -17,21 +18,26 @@ fn push_level<L: Leaves>(
     depth: usize,
     count: u32,
     longest: usize,
-    leaves: &L,
+    runs: &[Run],
 ) -> Result<u32, AllocError>
-    requires stage { IsStage (L.leaves leaves.now) first depth words.old.items }
-    requires short { AreShort 4 (L.leaves leaves.now) }
+    requires stage { IsStage (heads runs.now) first depth words.old.items }
+    requires short { AreShort 4 (heads runs.now) }
     requires depth { depth ≤ 3 }
-    requires base { base ≡ first + length (fronts (L.leaves leaves.now) depth) }
-    requires count { count ≡ length (level (L.leaves leaves.now) depth) }
+    requires base { base ≡ first + length (fronts (heads runs.now) depth) }
+    requires count { count ≡ length (level (heads runs.now) depth) }
     requires size { length words.old.items ≡ 256 * base }
-    requires longest { AreShort longest (L.leaves leaves.now) }
-    ensures stage { OnOk result (IsStage (L.leaves leaves.now) first (depth + 1) words.new.items) }
-    ensures count { IfOk result (λ n. n ≡ length (level (L.leaves leaves.now) (depth + 1))) }
+    requires longest { AreShort longest (heads runs.now) }
+    requires few { base + count < 2 ^ 32 }
+    ensures stage { OnOk result (IsStage (heads runs.now) first (depth + 1) words.new.items) }
+    ensures count { IfOk result (λ n. n ≡ length (level (heads runs.now) (depth + 1))) }
     ensures size { OnOk result (length words.new.items ≡ 256 * (base + count)) }
     ensures same { OnOk result (take (length words.old.items) words.new.items ≡ words.old.items) }
     ensures few { IfOk result (λ n. base + count + n < 2 ^ 32) }
 {
+    if longest <= depth + 1 {
+        words.resize(words.len() + count as usize * 256, 0)?;
+        return Ok(0);
+    }
     let marked = marks(
         alloc,
         words.as_slice(),
@@ -39,8 +45,7 @@ fn push_level<L: Leaves>(
         base,
         depth,
         count as usize,
-        longest,
-        leaves,
+        runs,
     )?;
     let next = mark_count(marked.as_slice());
     let Ok(next) = u32::try_from(next) else {
@@ -54,21 +59,21 @@ fn push_level<L: Leaves>(
 }
 
 /// Appends the pages of a trie, with references alone. Pages without a number below 2^32 are want of memory.
-pub fn push_levels<L: Leaves>(
+pub fn push_levels(
     alloc: Global,
     words: &mut Vec<u64>,
     first: u32,
     longest: usize,
-    leaves: &L,
+    runs: &[Run],
 ) -> Result<(), AllocError>
-    requires short { AreShort 4 (L.leaves leaves.now) }
-    requires longest { AreShort longest (L.leaves leaves.now) }
+    requires short { AreShort 4 (heads runs.now) }
+    requires longest { AreShort longest (heads runs.now) }
     requires size { length words.old.items ≡ 256 * first }
-    ensures stage { OnOk result (IsStage (L.leaves leaves.now) first 4 words.new.items) }
+    ensures stage { OnOk result (IsStage (heads runs.now) first 4 words.new.items) }
     ensures size { OnOk result (length words.new.items ≡
-        256 * (first + length (fronts (L.leaves leaves.now) 4))) }
+        256 * (first + length (fronts (heads runs.now) 4))) }
     ensures same { OnOk result (take (length words.old.items) words.new.items ≡ words.old.items) }
-    ensures few { OnOk result (first + length (fronts (L.leaves leaves.now) 4) < 2 ^ 32) }
+    ensures few { OnOk result (first + length (fronts (heads runs.now) 4) < 2 ^ 32) }
 {
     if first == u32::MAX {
         return Err(AllocError);
@@ -76,7 +81,7 @@ pub fn push_levels<L: Leaves>(
     let mut base = first;
     let mut count = 1;
     for depth in 0..4 {
-        let next = push_level(alloc, words, first, base, depth, count, longest, leaves)?;
+        let next = push_level(alloc, words, first, base, depth, count, longest, runs)?;
         base += count;
         count = next;
     }

@@ -12,6 +12,8 @@ mod lengths;
 mod levels;
 mod marks;
 mod overlap;
+mod run;
+mod runs;
 #[cfg(test)]
 mod tests;
 mod trie;

@@ -3,10 +3,11 @@
 ghost use Rattle.std.specs.Prelude.{◌≡◌, ◌≤◌, ◌<◌, ◌+◌, ◌*◌, ◌++◌, OnOk, IfOk, length, map, count_by};
 ghost use Rattle.std.specs.List.{flat_map};
 ghost use Rattle.trie.specs.Fronts.{AreShort, is_front, children, level, fronts};
+ghost use Rattle.trie.specs.Runs.{heads};
 ghost use Rattle.trie.specs.Stages.{IsStage, marked_with, numbered};
 ghost use Rattle.trie.specs.Words.{front_page};
 
-use crate::entry::Leaves;
+use crate::run::Run;
 use crate::walk::page_in;
 use crate::words::REF;
 use std::alloc::{AllocError, Global};
@@ -39,32 +40,26 @@ fn mark(marked: &mut Vec<bool>, page: Option<u32>, base: u32, byte: u8)
 }
 
 /// Whether paths go on, at each place of a level's pages.
-pub fn marks<L: Leaves>(
+pub fn marks(
     alloc: Global,
     words: &[u64],
     first: u32,
     base: u32,
     depth: usize,
     count: usize,
-    longest: usize,
-    leaves: &L,
+    runs: &[Run],
 ) -> Result<Vec<bool>, AllocError>
-    requires stage { IsStage (L.leaves leaves.now) first depth words.now }
-    requires short { AreShort 4 (L.leaves leaves.now) }
+    requires stage { IsStage (heads runs.now) first depth words.now }
+    requires short { AreShort 4 (heads runs.now) }
     requires depth { depth ≤ 3 }
-    requires base { base ≡ first + length (fronts (L.leaves leaves.now) depth) }
-    requires count { count ≡ length (level (L.leaves leaves.now) depth) }
-    requires longest { AreShort longest (L.leaves leaves.now) }
+    requires base { base ≡ first + length (fronts (heads runs.now) depth) }
+    requires count { count ≡ length (level (heads runs.now) depth) }
     ensures { IfOk result (λ ms. ms.items ≡
-        map (is_front (L.leaves leaves.now)) (flat_map children (level (L.leaves leaves.now) depth))) }
+        map (is_front (heads runs.now)) (flat_map children (level (heads runs.now) depth))) }
 {
     let mut marked = vec![in alloc; false; count * 256]?;
-    if longest <= depth + 1 {
-        return Ok(marked);
-    }
-    for at in 0..leaves.count() {
-        let entry = leaves.leaf(at);
-        let path = entry.path();
+    for run in runs {
+        let path = run.head().path();
         if path.len() > depth + 1 {
             mark(
                 &mut marked,

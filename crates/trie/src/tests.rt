@@ -8,7 +8,8 @@ use std::test::Fail;
 /// A path of one byte or two, and its word.
 #[derive(Drop)]
 struct Row {
-    bytes: [u8; 4],
+    first: u8,
+    second: u8,
     long: bool,
     word: u8,
 }
@@ -20,10 +21,12 @@ struct Rows {
 }
 
 impl Leaves for Rows {
-    ghost use Rattle.std.specs.Prelude.{map, take, if◌then◌else◌};
+    ghost use Rattle.std.specs.Prelude.{[], ◌∷◌, map, if◌then◌else◌};
     ghost use Rattle.trie.specs.Leaf.{Leaf};
 
-    ghost leaves = { λ r. map (λ row. record { path = take (if row.long then 2 else 1) row.bytes; word = row.word }) r.rows.items };
+    ghost leaves = { λ r. map (λ row. record {
+        path = row.first ∷ (if row.long then row.second ∷ [] else []);
+        word = row.word }) r.rows.items };
 
     fn count(&self) -> usize {
         self.rows.len()
@@ -31,7 +34,22 @@ impl Leaves for Rows {
 
     fn leaf(&self, place: usize) -> Entry {
         let row = &self.rows[place];
-        Entry::new(row.bytes, if row.long { 2 } else { 1 }, row.word as u64)
+        if row.long {
+            Entry::new([row.first, row.second, 0, 0], 2, row.word as u64)
+        } else {
+            Entry::new([row.first, 0, 0, 0], 1, row.word as u64)
+        }
+    }
+
+    fn follows(&self, place: usize) -> bool {
+        let before = &self.rows[place - 1];
+        let row = &self.rows[place];
+        let raised = if row.long && before.long {
+            row.first == before.first && row.second as u16 == before.second as u16 + 1
+        } else {
+            !row.long && !before.long && row.first as u16 == before.first as u16 + 1
+        };
+        raised && row.word as u16 == before.word as u16 + 1
     }
 }
 
@@ -44,7 +62,8 @@ fn find(words: &[u64], bytes: &[u8]) -> Walk
 
 fn make_row(first: u8, second: u8, long: bool, word: u8) -> Row {
     Row {
-        bytes: [first, second, 0, 0],
+        first,
+        second,
         long,
         word,
     }
@@ -69,6 +88,31 @@ fn bytes_lead_to_words(rt: HostRuntime) -> Result<(), Fail> {
     assert!(&rt; find(words.as_slice(), &[0x81]) == Walk::Inside);
     assert!(&rt; find(words.as_slice(), &[0x81, 0xfd]) == Walk::Outside);
     assert!(&rt; find(words.as_slice(), &[0x42]) == Walk::Outside);
+    Ok(())
+}
+
+#[test]
+fn a_run_leads_to_words_that_grow(rt: HostRuntime) -> Result<(), Fail> {
+    let alloc = rt.alloc();
+    let rows = Rows {
+        rows: vec![in alloc;
+            make_row(0x81, 0xfd, true, 7),
+            make_row(0x81, 0xfe, true, 8),
+            make_row(0x81, 0xff, true, 9),
+            make_row(0x82, 0x00, true, 10),
+            make_row(0x82, 0x01, true, 12),
+            make_row(0x81, 0xff, true, 13),
+        ]?,
+    };
+    let Ok(words) = with_trie(alloc, Vec::new(alloc), 0, &rows) else {
+        panic!(&rt; "a trie was expected");
+    };
+    assert!(&rt; words.len() == 768);
+    assert!(&rt; find(words.as_slice(), &[0x81, 0xfd]) == Walk::Word { word: 7, used: 2 });
+    assert!(&rt; find(words.as_slice(), &[0x81, 0xff]) == Walk::Word { word: 9, used: 2 });
+    assert!(&rt; find(words.as_slice(), &[0x82, 0x00]) == Walk::Word { word: 10, used: 2 });
+    assert!(&rt; find(words.as_slice(), &[0x82, 0x01]) == Walk::Word { word: 12, used: 2 });
+    assert!(&rt; find(words.as_slice(), &[0x82, 0x02]) == Walk::Outside);
     Ok(())
 }
 

@@ -11,6 +11,7 @@ use crate::fill::fill;
 use crate::lengths::lengths_of;
 use crate::levels::push_levels;
 use crate::overlap::overlap;
+use crate::runs::runs_of;
 use std::alloc::{AllocError, Global};
 
 /// Why leaves have no trie.
@@ -47,12 +48,14 @@ pub fn with_trie<L: Leaves>(
     ensures apart { OnOk result (AreApart (paths (L.leaves leaves.now))) }
     ensures refused { IfErr result (IsFault (L.leaves leaves.now)) }
 {
-    let lengths = lengths_of(leaves);
-    push_levels(alloc, &mut words, first, lengths.longest, leaves)?;
+    let runs = runs_of(alloc, leaves)?;
+    let runs = runs.as_slice();
+    let lengths = lengths_of(runs);
+    push_levels(alloc, &mut words, first, lengths.longest, runs)?;
     match overlap(words.as_slice(), first, lengths, leaves) {
         Some((first, second)) => Err(Fault::Overlap { first, second }),
         None => {
-            fill(&mut words, first, leaves);
+            fill(&mut words, first, runs);
             Ok(words)
         }
     }

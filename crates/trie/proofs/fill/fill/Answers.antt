@@ -1,51 +1,64 @@
-use Rattle.std.proofs.Common.{◌≡◌, ◌≤◌, ◌+◌, ◌-◌, ◌*◌, ◌^◌, ◌∙◌, ℕ, List, arith, sym, ap, subst, get_or, take, length}
+use Rattle.std.proofs.Common.{◌≡◌, ◌≤◌, ◌<◌, ◌+◌, ◌-◌, ◌*◌, ◌^◌, ◌∙◌, ℕ, suc, List, arith, sym, ap, subst, get_or, take, length, add-one}
 use Rattle.trie.specs.Leaf.{Leaf}
 use Rattle.trie.specs.Fronts.{pages}
-use Rattle.trie.specs.Stages.{put_with, Holds}
+use Rattle.trie.specs.Runs.{Run, all_of, later}
+use Rattle.trie.specs.Stages.{put_run, Holds}
 use Rattle.trie.specs.Words.{front_page}
-use Rattle.trie.proofs.Entries.{leaf_is}
 use Rattle.trie.proofs.Walks.{AreBytes}
-use Rattle.trie.proofs.Fills.{fill_step, fill_keeps, length-put}
+use Rattle.trie.proofs.Fills.{RunPut, run_step}
+use Rattle.trie.proofs.RunLaws.{start, run_at, next_start, starts_within}
 use Rattle.trie.proofs.fill.fill.Goals as goal
 
--- The words with one path's word more.
-abbrev with_path : List ℕ → ℕ → List ℕ → ℕ → List ℕ
-with_path ws first p w =
-    put_with ws (front_page ws first (take (length p - 1) p)) (get_or p (length p - 1) 0) (2 ^ 62 + w)
+-- The words with one run more.
+abbrev with_run : List ℕ → ℕ → List ℕ → ℕ → ℕ → List ℕ
+with_run ws first p w n =
+    put_run ws (front_page ws first (take (length p - 1) p)) (get_or p (length p - 1) 0) (2 ^ 62 + w) n
 
-pub loop-at-preserved : goal.loop-at-preserved
-loop-at-preserved g c =
-    let leaves = g.L.Leaves.leaves c.args.leaves.now in
-    let i = c.loop-at.at in
-    let d = c.leaf-entry.result in
-    let l = get_or leaves i d in
+pub loop-run-preserved : goal.loop-run-preserved
+loop-run-preserved c =
+    let runs = c.args.runs.now in
+    let leaves = all_of runs in
     let first = c.args.first in
-    let ws = c.loop-at.words.items in
+    let ws = c.loop-run.words.items in
+    let k = c.loop-run.run-index in
+    let r : Run = c.run-item.result in
+    let h = r.head in
+    let i = start runs k in
+    let n = r.more + 1 in
+    let here : r ≡ get_or runs k r = c.run-item.is in
+    let head : c.head-head.result.now ≡ h = c.head-head.ensures.value in
     let p = c.path-path.result.now in
-    let is : d ≡ l = leaf_is leaves i d c.leaf-entry.ensures in
-    let path : p ≡ l.path = c.path-path.ensures.value ∙ ap (λ (x : Leaf). x.path) is in
-    let word : c.word.result ≡ l.word = c.word.ensures.value ∙ ap (λ (x : Leaf). x.word) is in
+    let path : p ≡ h.path = c.path-path.ensures.value ∙ ap (λ (x : Leaf). x.path) head in
     let fits : AreBytes p = λ j. omega (arith, c.path-path.items_fit j) in
-    let new : c.put.new.words.items ≡ with_path ws first l.path l.word =
-    c.put.ensures
-    ∙ ap (λ o. put_with ws o (get_or p (length p - 1) 0) (2 ^ 62 + c.word.result))
+    let few : length h.path ≡ length h.path - 1 + 1 = omega (arith, ap length path, c.path-path.ensures.some) in
+    let short : length h.path - 1 ≤ 3 = omega (arith, ap length path, c.path-path.ensures.few) in
+    let room : get_or h.path (length h.path - 1) 0 + n ≤ 256 =
+    subst (λ (x : Leaf). get_or x.path (length x.path - 1) 0 + n ≤ 256) head
+    (omega (arith, c.head-head.ensures.room)) in
+    let more : (get_or runs k r).more ≡ r.more = ap (λ (x : Run). x.more) (sym here) in
+    let next : start runs (k + 1) ≡ i + n =
+    ap (start runs) (add-one k) ∙ next_start runs k r (omega arith)
+    ∙ ap (λ j. i + (j + 1)) more in
+    let within : i + n ≤ length leaves = omega (arith, starts_within runs (k + 1), next) in
+    let each : (j : ℕ) → j < n → get_or leaves (i + j) h ≡ later j h = λ j lt.
+    run_at runs k j r h (omega arith) (omega (arith, more, lt))
+    ∙ ap (λ (x : Run). later j x.head) (sym here) in
+    let size : length ws ≡ 256 * (first + length (pages leaves)) = c.loop-run.invariant.size
+    ∙ c.requires.size in
+    let step : RunPut leaves first i n ws (with_run ws first h.path h.word n) =
+    run_step leaves first i (length h.path - 1) n h ws c.requires.short c.requires.apart
+    (subst AreBytes path fits) few short room within each size c.loop-run.invariant.holds in
+    let new : c.put_run.new.words.items ≡ with_run ws first h.path h.word n =
+    c.put_run.ensures
+    ∙ ap (λ o. put_run ws o (get_or p (length p - 1) 0) (2 ^ 62 + c.word.result) c.count.result)
     (c.front_page-page.ensures
     ∙ ap (λ x. front_page x first (take (length p - 1) p)) c.as_slice.ensures.value)
-    ∙ ap (λ x. with_path ws first x c.word.result) path ∙ ap (with_path ws first l.path) word in
-    let some : length l.path ≡ length l.path - 1 + 1 =
-    omega (arith, ap length path, c.path-path.ensures.some) in
-    let few : length l.path - 1 ≤ 3 = omega (arith, ap length path, c.path-path.ensures.few) in
-    let size : length ws ≡ 256 * (first + length (pages leaves)) = c.loop-at.invariant.size
-    ∙ c.requires.size in
-    let bytes : AreBytes l.path = subst AreBytes path fits in
+    ∙ ap (λ x. with_run ws first x c.word.result c.count.result) path
+    ∙ ap (λ w. with_run ws first h.path w c.count.result) (c.word.ensures.value ∙ ap (λ (x : Leaf). x.word) head)
+    ∙ ap (with_run ws first h.path h.word) c.count.ensures.value in
     record {
-      holds = subst (λ x. Holds (take (i + 1) leaves) leaves first x) (sym new)
-          (fill_step leaves first i (length l.path - 1) d ws c.requires.short c.requires.apart
-          (omega arith) bytes some few size c.loop-at.invariant.holds);
-      size = ap length new ∙ length-put ws (front_page ws first (take (length l.path - 1) l.path))
-          (get_or l.path (length l.path - 1) 0) (2 ^ 62 + l.word) ∙ c.loop-at.invariant.size;
-      same = ap (take (256 * first)) new
-          ∙ fill_keeps leaves first i (length l.path - 1) d ws c.requires.short c.requires.apart
-          (omega arith) bytes some few c.loop-at.invariant.holds
-          ∙ c.loop-at.invariant.same;
+      holds = subst (λ j. Holds (take j leaves) leaves first c.put_run.new.words.items) (sym next)
+          (subst (λ x. Holds (take (i + n) leaves) leaves first x) (sym new) step.holds);
+      size = ap length new ∙ step.size ∙ c.loop-run.invariant.size;
+      same = ap (take (256 * first)) new ∙ step.same ∙ c.loop-run.invariant.same;
     }

@@ -1,11 +1,15 @@
-use Rattle.std.proofs.Common.{◌≡◌, ◌+◌, ◌*◌, ◌^◌, ◌≤◌, ◌++◌, ◌∙◌, ℕ, suc, Bool, List, arith, sym, ap, subst, map, length, length-append, add-one}
+use Rattle.std.proofs.Common.{◌≡◌, ◌+◌, ◌-◌, ◌*◌, ◌^◌, ◌≤◌, ◌++◌, ◌∙◌, ℕ, suc, Bool, false, List, take, replicate, arith, sym, ap, subst, map, length, length-append, add-one}
 use Rattle.std.specs.List.{flat_map}
+use Rattle.std.specs.Vec.{vec_len}
 use Rattle.std.specs.Prelude.{count_by}
-use Rattle.std.proofs.lemmas.List.{length-map}
+use Rattle.std.proofs.lemmas.List.{length-map, take_all}
 use Rattle.trie.specs.Fronts.{is_front, children, level, fronts}
 use Rattle.trie.specs.Leaf.{Leaf}
+use Rattle.trie.specs.Runs.{heads}
 use Rattle.trie.specs.Stages.{numbered, IsStage}
 use Rattle.trie.proofs.Numbers.{stage_next, count_marks, length-numbered}
+use Rattle.trie.proofs.Marking.{none_longer_marked}
+use Rattle.trie.proofs.RunLaws.{numbered_none, no_longer}
 use Rattle.trie.proofs.Distinct.{length-all_children}
 use Rattle.trie.proofs.levels.push_level.Goals as goal
 
@@ -16,9 +20,46 @@ counted leaves n next ms ns is same marks =
     rw (add-one n) (is ∙ ap (count_by (λ m. m)) (same ∙ marks)
     ∙ count_marks (is_front leaves) (flat_map children (level leaves n)))
 
+pub returns-then-longest-depth-clause-stage : goal.returns-then-longest-depth-clause-stage
+returns-then-longest-depth-clause-stage c =
+    let leaves = heads c.args.runs.now in
+    let n = c.args.depth in
+    let first = c.args.first in
+    let ws = c.args.words.now.items in
+    let next = first + length (fronts leaves (suc n)) in
+    let many : c.len.result + c.args.count * 256 - vec_len c.args.words.now ≡ c.args.count * 256 =
+    omega (arith, c.len.ensures) in
+    let whole : take (c.len.result + c.args.count * 256) ws ≡ ws =
+    take_all (c.len.result + c.args.count * 256) ws (omega (arith, c.len.ensures)) in
+    let added : c.resize.new.self.items ≡ ws ++ numbered next (replicate (c.args.count * 256) false) =
+    c.in_ok-resize.ensures.items
+    ∙ ap (λ xs. xs ++ replicate (c.len.result + c.args.count * 256 - vec_len c.args.words.now) 0) whole
+    ∙ ap (λ k. ws ++ replicate k 0) many
+    ∙ ap (λ xs. ws ++ xs) (sym (numbered_none next (c.args.count * 256))) in
+    let few : first + length (fronts leaves (suc (suc n))) ≤ 2 ^ 32 =
+    omega (
+      arith,
+      c.requires.few,
+      c.requires.base,
+      c.requires.count,
+      no_longer leaves n c.args.longest c.requires.longest c.if-longest-depth.true,
+      length-append (fronts leaves n) (level leaves n),
+      length-append (fronts leaves (suc n)) (level leaves (suc n)),
+    ) in
+    rw (add-one n) (subst (λ x. IsStage leaves first (suc n) x) (sym added)
+    (stage_next leaves first n ws (replicate (c.args.count * 256) false) c.requires.depth c.requires.short
+    c.requires.stage (c.requires.size ∙ ap (λ b. 256 * b) c.requires.base)
+    (none_longer_marked leaves n c.args.longest (c.args.count * 256) c.requires.longest
+    c.if-longest-depth.true (omega (arith, c.requires.count))) few))
+
+pub returns-then-longest-depth-clause-count : goal.returns-then-longest-depth-clause-count
+returns-then-longest-depth-clause-count c =
+    rw (add-one c.args.depth)
+    (sym (no_longer (heads c.args.runs.now) c.args.depth c.args.longest c.requires.longest c.if-longest-depth.true))
+
 pub returns-clause-stage : goal.returns-clause-stage
-returns-clause-stage g c =
-    let leaves = g.L.Leaves.leaves c.args.leaves.now in
+returns-clause-stage c =
+    let leaves = heads c.args.runs.now in
     let n = c.args.depth in
     let first = c.args.first in
     let ws = c.args.words.now.items in
@@ -47,14 +88,14 @@ returns-clause-stage g c =
     (c.requires.size ∙ ap (λ b. 256 * b) c.requires.base) c.in_ok-marked.ensures few))
 
 pub returns-clause-count : goal.returns-clause-count
-returns-clause-count g c =
-    counted (g.L.Leaves.leaves c.args.leaves.now) c.args.depth c.in-Ok.next c.in_ok-marked.marked.items
+returns-clause-count c =
+    counted (heads c.args.runs.now) c.args.depth c.in-Ok.next c.in_ok-marked.marked.items
     c.as_slice-2.result.now
     (c.in-Ok.ensures.1 ∙ c.mark_count-next.ensures) c.as_slice-2.ensures.value c.in_ok-marked.ensures
 
 pub returns-clause-size : goal.returns-clause-size
-returns-clause-size g c =
-    let leaves = g.L.Leaves.leaves c.args.leaves.now in
+returns-clause-size c =
+    let leaves = heads c.args.runs.now in
     let n = c.args.depth in
     let ws = c.args.words.now.items in
     let ms = c.in_ok-marked.marked.items in

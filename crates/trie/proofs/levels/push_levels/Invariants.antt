@@ -1,11 +1,12 @@
 use Rattle.std.proofs.Common.{◌≡◌, ◌+◌, ◌*◌, ◌<◌, ◌^◌, take, length}
 use Rattle.trie.specs.Fronts.{level, fronts}
+use Rattle.trie.specs.Runs.{heads}
 use Rattle.trie.specs.Stages.{IsStage}
 use Rattle.trie.proofs.levels.push_levels.Given as goal
 
 abbrev pub invariant-loop-depth : goal.invariant-loop-depth
-invariant-loop-depth g l =
-    let leaves = g.L.Leaves.leaves l.leaves in
+invariant-loop-depth l =
+    let leaves = heads l.runs in
     record {
       stage : IsStage leaves l.first l.depth l.words.items;
       base : l.base ≡ l.first + length (fronts leaves l.depth);
