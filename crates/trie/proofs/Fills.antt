@@ -1,5 +1,5 @@
 -- Words put into pages.
-use Rattle.std.proofs.Common.{◌≡◌, ◌≢◌, ℕ, zero, suc, ◌+◌, ◌*◌, ◌-◌, ◌^◌, ◌<◌, ◌≤◌, Bool, true, false, not, eqb, ltb, List, [], ◌∷◌, ◌++◌, length, get_or, take, set, Option, Some, None, refl, sym, ap, ◌∙◌, subst, inl, inr, arith, length-append, length-set}
+use Rattle.std.proofs.Common.{◌≡◌, ◌≢◌, ℕ, zero, suc, ◌+◌, ◌*◌, ◌-◌, ◌^◌, ◌<◌, ◌≤◌, Bool, true, false, not, eqb, ltb, ◌||◌, List, [], ◌∷◌, ◌++◌, length, get_or, take, set, Option, Some, None, refl, sym, ap, ◌∙◌, subst, inl, inr, arith, length-append, length-set}
 use Rattle.std.proofs.Math.Seq.{take-length}
 use Rattle.std.specs.Option.{option_or}
 use Rattle.std.specs.Str.{bytes_eq}
@@ -8,7 +8,7 @@ use Rattle.std.proofs.lemmas.List.Folds.{list_any_at}
 use Rattle.std.proofs.lemmas.Bool.{cases_Bool, cases_eq, eq-eqb, ne_eqb, ltb-true, ltb-false}
 use Rattle.trie.proofs.Stages.{Refers}
 use Rattle.trie.specs.Fronts.{AreShort, word_at, is_proper_prefix, is_front, level, fronts, pages}
-use Rattle.trie.specs.Stages.{ref_cell, IsStage, put_with, put_run, Holds, NoneGoesOn, word_behind, leads_on}
+use Rattle.trie.specs.Stages.{ref_cell, IsStage, put_with, put_run, Holds, NoneGoesOn, word_behind, some_behind, leads_on}
 use Rattle.trie.specs.Trie.{place_of, cell, cell_word}
 use Rattle.trie.specs.Words.{front_page, word_in}
 use Rattle.trie.specs.Leaf.{Leaf}
@@ -339,3 +339,59 @@ run_step leaves first i m (suc n) h ws short apart ok len few room lt each size 
           ∙ fill_keeps leaves first (i + n) m h vs short apart (omega arith) bytes long few r.holds
           ∙ r.same;
     }
+
+or_left : (a b : Bool) → (a || b) ≡ false → a ≡ false
+or_left true b e = e
+or_left false b e = refl
+
+or_right : (a b : Bool) → (a || b) ≡ false → b ≡ false
+or_right true b e = absurd (true_false e)
+or_right false b e = e
+
+-- where no word stands, none stands at any of the places
+pub none_behind : (ws : List ℕ) (page : Option ℕ) (byte n k : ℕ) → some_behind ws page byte n ≡ false → k < n →
+    not (eqb (word_behind ws page (byte + k)) 0) ≡ false
+none_behind ws page byte zero k e lt = absurd (omega arith)
+none_behind ws page byte (suc n) k e lt = elim (cases_eq k n) [
+  | inl same ↦ ap (λ j. not (eqb (word_behind ws page (byte + j)) 0)) same
+      ∙ or_right (some_behind ws page byte n) (not (eqb (word_behind ws page (byte + n)) 0)) e
+  | inr other ↦ none_behind ws page byte n k
+      (or_left (some_behind ws page byte n) (not (eqb (word_behind ws page (byte + n)) 0)) e) (omega arith)
+]
+
+-- no path goes on from the leaves before this place
+abbrev pub NoneBefore : List Leaf → ℕ → Type 0
+NoneBefore leaves i = (j : ℕ) (d : Leaf) → j < i → is_front leaves (get_or leaves j d).path ≡ false
+
+-- from a run's paths none goes on
+pub none_step : (leaves : List Leaf) (first i m n : ℕ) (h : Leaf) (ws : List ℕ) → AreShort 4 leaves →
+    IsStage leaves first 4 ws → AreBytes h.path → length h.path ≡ m + 1 → m ≤ 3 → get_or h.path m 0 + n ≤ 256 →
+    i + n ≤ length leaves → ((k : ℕ) (d : Leaf) → k < n → get_or leaves (i + k) d ≡ later k h) →
+    some_behind ws (front_page ws first (take m h.path)) (get_or h.path m 0) n ≡ false →
+    NoneBefore leaves i → NoneBefore leaves (i + n)
+none_step leaves first i m n h ws short st ok len few room lt each none before j d low =
+    elim (cases_Bool (ltb j i)) [
+      | inl t ↦ before j d (ltb-true j i t)
+      | inr f ↦
+          let k = j - i in
+          let le = ltb-false j i f in
+          let place : i + k ≡ j = omega (arith, le) in
+          let here : (get_or leaves j d).path ≡ raised k h.path =
+          ap (λ x. (get_or leaves x d).path) (sym place)
+          ∙ ap (λ (x : Leaf). x.path) (each k d (omega arith)) in
+          let long : length (get_or leaves j d).path ≡ m + 1 = ap length here ∙ length-raised k h.path ∙ len in
+          let bytes : AreBytes (get_or leaves j d).path = subst AreBytes (sym here)
+          (later_bytes m k h.path len ok (omega arith)) in
+          let short_m : length (raised k h.path) - 1 ≡ m = omega (arith, length-raised k h.path, len) in
+          let leads : leads_on ws first (get_or leaves j d).path ≡ false =
+          ap (leads_on ws first) here
+          ∙ ap (λ x. not (eqb (word_behind ws (front_page ws first (take x (raised k h.path)))
+          (get_or (raised k h.path) x 0)) 0)) short_m
+          ∙ ap (λ q. not (eqb (word_behind ws (front_page ws first q) (get_or (raised k h.path) m 0)) 0))
+          (take-raised k m h.path len)
+          ∙ ap (λ b. not (eqb (word_behind ws (front_page ws first (take m h.path)) b) 0))
+          (get_or-raised k m h.path len)
+          ∙ none_behind ws (front_page ws first (take m h.path)) (get_or h.path m 0) n k none (omega arith) in
+          sym (front_is leaves first j d ws short st (omega arith) bytes (omega (arith, long))
+          (omega (arith, long))) ∙ leads
+    ]

@@ -1,5 +1,5 @@
 -- The pages of a trie while they are built.
-use Rattle.std.specs.Prelude.{◌≡◌, ◌<◌, ◌≤◌, ℕ, zero, suc, ◌+◌, ◌*◌, ◌-◌, ◌^◌, Bool, true, false, not, ◌==◌, if◌then◌else◌, List, [], ◌∷◌, ◌++◌, length, get_or, slice_set, take, Option, Some, None}
+use Rattle.std.specs.Prelude.{◌≡◌, ◌<◌, ◌≤◌, ℕ, zero, suc, ◌+◌, ◌*◌, ◌-◌, ◌^◌, Bool, true, false, not, ◌||◌, ◌==◌, if◌then◌else◌, List, [], ◌∷◌, ◌++◌, length, get_or, slice_set, take, Option, Some, None}
 use Rattle.trie.specs.Leaf.{Leaf}
 use Rattle.trie.specs.Fronts.{is_front, fronts, pages}
 use Rattle.trie.specs.Trie.{place_of, cell_word, cell}
@@ -56,3 +56,8 @@ abbrev pub leads_on : List ℕ → ℕ → List ℕ → Bool
 leads_on ws first path =
     not (word_behind ws (front_page ws first (take (length path - 1) path))
     (get_or path (length path - 1) 0) == 0)
+
+-- Whether a word stands at one of so many places of a page, from a byte on.
+abbrev pub some_behind : List ℕ → Option ℕ → ℕ → ℕ → Bool
+some_behind ws page byte zero = false
+some_behind ws page byte (suc n) = some_behind ws page byte n || not (word_behind ws page (byte + n) == 0)

@@ -1,6 +1,6 @@
 //! The words that paths lead to, put into their pages.
 
-ghost use Rattle.std.specs.Prelude.{◌≡◌, ◌≤◌, ◌<◌, ◌+◌, ◌-◌, ◌*◌, ◌^◌, take, length, get_or};
+ghost use Rattle.std.specs.Prelude.{◌≡◌, ◌≤◌, ◌<◌, ◌+◌, ◌-◌, ◌*◌, ◌^◌, take, length, get_or, Some};
 ghost use Rattle.trie.specs.Fronts.{AreShort, pages};
 ghost use Rattle.trie.specs.Runs.{all_of};
 ghost use Rattle.trie.specs.Stages.{IsStage, Holds, NoneGoesOn, put_with, put_run};
@@ -23,14 +23,34 @@ fn put(words: &mut Vec<u64>, page: Option<u32>, byte: u8, word: u64)
     }
 }
 
+/// Puts words that grow by one, so many of them, where no word is yet.
+fn put_cells(words: &mut [u64], page: u32, byte: u8, word: u64, count: usize)
+    requires room { 256 * page + byte + count ≤ length words.old }
+    requires small { word + count < 2 ^ 64 }
+    ensures { words.new ≡ put_run words.old (Some page) byte word count }
+{
+    let start = page as usize * 256 + byte as usize;
+    for more in 0..count {
+        let cell = words[start + more];
+        words[start + more] = if cell == 0 { word + more as u64 } else { cell };
+    }
+}
+
 /// Puts words that grow by one, so many of them, from a byte of a page on.
 fn put_run(words: &mut Vec<u64>, page: Option<u32>, byte: u8, word: u64, count: usize)
     requires room { byte + count ≤ 256 }
     requires small { word + count < 2 ^ 64 }
     ensures { words.new.items ≡ put_run words.old.items page byte word count }
 {
-    for more in 0..count {
-        put(words, page, byte + more as u8, word + more as u64);
+    match page {
+        Some(page) if page as usize * 256 + byte as usize + count <= words.len() => {
+            put_cells(words.as_mut_slice(), page, byte, word, count);
+        }
+        _ => {
+            for more in 0..count {
+                put(words, page, byte + more as u8, word + more as u64);
+            }
+        }
     }
 }
 

@@ -35,7 +35,9 @@ fn push_level(
     ensures few { IfOk result (λ n. base + count + n < 2 ^ 32) }
 {
     if longest <= depth + 1 {
-        words.resize(words.len() + count as usize * 256, 0)?;
+        let more = count as usize * 256;
+        words.reserve_exact(more)?;
+        words.resize(words.len() + more, 0)?;
         return Ok(0);
     }
     let marked = marks(

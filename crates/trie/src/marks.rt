@@ -76,7 +76,7 @@ pub fn marks(
 pub fn push_numbered(words: &mut Vec<u64>, marked: &[bool], next: u32) -> Result<(), AllocError>
     ensures { OnOk result (words.new.items ≡ words.old.items ++ numbered next marked.now) }
 {
-    words.reserve(marked.len())?;
+    words.reserve_exact(marked.len())?;
     let mut next = next as u64;
     for mark in marked {
         if *mark {

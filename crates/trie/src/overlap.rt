@@ -1,15 +1,17 @@
 //! Paths that go on from others.
 
-ghost use Rattle.std.specs.Prelude.{◌≡◌, ◌<◌, length, MatchOption};
+ghost use Rattle.std.specs.Prelude.{◌≡◌, ◌+◌, ◌<◌, ◌≤◌, length, IsTrue, MatchOption};
 ghost use Rattle.std.specs.Option.{ForSome};
 ghost use Rattle.trie.specs.Fronts.{AreLong, AreShort, is_front, is_proper_prefix};
 ghost use Rattle.trie.specs.Leasts.{IsLeastSoFar, lesser};
 ghost use Rattle.trie.specs.Overlaps.{at_most, IsOverlapAt};
-ghost use Rattle.trie.specs.Stages.{IsStage, NoneGoesOn, leads_on, word_behind};
+ghost use Rattle.trie.specs.Runs.{all_of};
+ghost use Rattle.trie.specs.Stages.{IsStage, NoneGoesOn, leads_on, some_behind, word_behind};
 
 use crate::entry::Leaves;
 use crate::lengths::Lengths;
 use crate::marks::front_page;
+use crate::run::Run;
 
 /// The word at a place of a page; 0 where there is no page.
 fn word_behind(words: &[u64], page: Option<u32>, byte: u8) -> u64
@@ -65,6 +67,35 @@ fn lesser<L: Leaves>(leaves: &L, best: Option<usize>, at: usize) -> usize
     }
 }
 
+/// Whether a word stands at one of so many places of a page, from a byte on.
+fn is_some_behind(words: &[u64], page: Option<u32>, byte: u8, count: usize) -> bool
+    requires { byte + count ≤ 256 }
+    ensures { result ≡ some_behind words.now page byte count }
+{
+    let mut some = false;
+    for more in 0..count {
+        some = some || word_behind(words, page, byte + more as u8) != 0;
+    }
+    some
+}
+
+/// Whether no path goes on from another. A run's paths have one page, so they need one walk.
+fn none_goes_on(words: &[u64], first: u32, runs: &[Run]) -> bool
+    requires stage { IsStage (all_of runs.now) first 4 words.now }
+    requires short { AreShort 4 (all_of runs.now) }
+    ensures { IsTrue result → NoneGoesOn (all_of runs.now) }
+{
+    for run in runs {
+        let path = run.head().path();
+        let last = path.len() - 1;
+        let page = front_page(words, first, &path[..last]);
+        if is_some_behind(words, page, path[last], run.count()) {
+            return false;
+        }
+    }
+    true
+}
+
 /// The place of the least path that another one goes on from.
 fn least_front<L: Leaves>(words: &[u64], first: u32, leaves: &L) -> Option<usize>
     requires stage { IsStage (L.leaves leaves.now) first 4 words.now }
@@ -104,7 +135,9 @@ pub fn overlap<L: Leaves>(
     first: u32,
     lengths: Lengths,
     leaves: &L,
+    runs: &[Run],
 ) -> Option<(usize, usize)>
+    requires runs { all_of runs.now ≡ L.leaves leaves.now }
     requires stage { IsStage (L.leaves leaves.now) first 4 words.now }
     requires short { AreShort 4 (L.leaves leaves.now) }
     requires longest { AreShort lengths.longest (L.leaves leaves.now) }
@@ -113,6 +146,9 @@ pub fn overlap<L: Leaves>(
         MatchOption result (NoneGoesOn all) (λ o. IsOverlapAt all o.0 o.1) }
 {
     if lengths.longest <= lengths.shortest {
+        return None;
+    }
+    if none_goes_on(words, first, runs) {
         return None;
     }
     let front = least_front(words, first, leaves)?;

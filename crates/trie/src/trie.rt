@@ -52,7 +52,7 @@ pub fn with_trie<L: Leaves>(
     let runs = runs.as_slice();
     let lengths = lengths_of(runs);
     push_levels(alloc, &mut words, first, lengths.longest, runs)?;
-    match overlap(words.as_slice(), first, lengths, leaves) {
+    match overlap(words.as_slice(), first, lengths, leaves, runs) {
         Some((first, second)) => Err(Fault::Overlap { first, second }),
         None => {
             fill(&mut words, first, runs);

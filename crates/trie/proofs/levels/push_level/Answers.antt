@@ -27,13 +27,16 @@ returns-then-longest-depth-clause-stage c =
     let first = c.args.first in
     let ws = c.args.words.now.items in
     let next = first + length (fronts leaves (suc n)) in
-    let many : c.len.result + c.args.count * 256 - vec_len c.args.words.now ≡ c.args.count * 256 =
+    let reserved = c.reserve_exact.new.self in
+    let many : c.len.result + c.args.count * 256 - vec_len reserved ≡ c.args.count * 256 =
     omega (arith, c.len.ensures) in
     let whole : take (c.len.result + c.args.count * 256) ws ≡ ws =
     take_all (c.len.result + c.args.count * 256) ws (omega (arith, c.len.ensures)) in
     let added : c.resize.new.self.items ≡ ws ++ numbered next (replicate (c.args.count * 256) false) =
     c.in_ok-resize.ensures.items
-    ∙ ap (λ xs. xs ++ replicate (c.len.result + c.args.count * 256 - vec_len c.args.words.now) 0) whole
+    ∙ ap (λ xs. take (c.len.result + c.args.count * 256) xs
+    ++ replicate (c.len.result + c.args.count * 256 - vec_len reserved) 0) c.reserve_exact.ensures.items
+    ∙ ap (λ xs. xs ++ replicate (c.len.result + c.args.count * 256 - vec_len reserved) 0) whole
     ∙ ap (λ k. ws ++ replicate k 0) many
     ∙ ap (λ xs. ws ++ xs) (sym (numbered_none next (c.args.count * 256))) in
     let few : first + length (fronts leaves (suc (suc n))) ≤ 2 ^ 32 =
