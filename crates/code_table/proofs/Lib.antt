@@ -1,4 +1,5 @@
 pub mod LookLaws
+pub mod LastLaws
 pub mod Known
 pub mod Numbers
 pub mod SameLooks

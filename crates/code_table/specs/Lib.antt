@@ -1,4 +1,5 @@
 pub mod Looks
+pub mod Last
 pub mod Images
 pub mod Faults
 pub mod WellFormed

@@ -6,6 +6,7 @@ ghost use Rattle.code_pairs.specs.Bytes.{IsCodeForm};
 ghost use Rattle.code_pairs.specs.declared.Pair.{Pair};
 ghost use Rattle.code_table.specs.Faults.{IsTableFault};
 ghost use Rattle.code_table.specs.Images.{code_leaves, point_leaves, root_of};
+ghost use Rattle.code_table.specs.Last.{last_point};
 ghost use Rattle.code_table.specs.Looks.{codes_of};
 ghost use Rattle.trie.specs.Fronts.{pages};
 ghost use Rattle.trie.specs.Overlaps.{AreApart};
@@ -24,6 +25,19 @@ pub fn see_forms(pairs: &[Pair])
     for pair in pairs {
         let _count = pair.code.len();
     }
+}
+
+/// The greatest point of pairs; 0 where there are none.
+pub fn last_of(pairs: &[Pair]) -> u32
+    ensures { result ≡ last_point pairs.now }
+{
+    let mut last = 0;
+    for pair in pairs {
+        if last < pair.point {
+            last = pair.point;
+        }
+    }
+    last
 }
 
 /// The decode pages of pairs.

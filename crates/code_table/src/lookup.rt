@@ -20,6 +20,7 @@ pub enum Look {
 pub trait Lookup {
     ghost use Rattle.std.specs.Prelude.{◌≡◌, ℕ, ◌<◌, length};
     ghost use Rattle.code_pairs.specs.Tables.{Tables, table_at, code_of, IsWellFormed};
+    ghost use Rattle.code_table.specs.Last.{last_point};
     ghost use Rattle.code_table.specs.Looks.{look_of};
 
     /// The tables.
@@ -48,6 +49,12 @@ pub trait Lookup {
         ensures same { tables self.new ≡ tables self.old }
         ensures ready { ready self.new }
         ensures kept { kept self.old self.new };
+
+    /// The greatest point that the table of that number has a code of; 0 where it has none. A writer
+    /// that tries several tables leaves out the look-up of a greater point.
+    fn last(&self, table: u32) -> u32
+        requires within { table < length (tables self.now) }
+        ensures value { result ≡ last_point (table_at (tables self.now) table) };
 
     // Each table is well formed; past the last one stands the empty table.
     ghost well_formed: { (x : Self) (k : ℕ) → ready x → IsWellFormed (table_at (tables x) k) };

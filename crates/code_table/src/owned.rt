@@ -39,4 +39,9 @@ impl Lookup for Owned {
     fn bytes(&mut self, table: u32, point: u32) -> Option<Code> {
         self.tables[table as usize].bytes(point)
     }
+
+    #[inline(always)]
+    fn last(&self, table: u32) -> u32 {
+        self.tables[table as usize].last()
+    }
 }

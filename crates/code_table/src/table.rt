@@ -4,9 +4,10 @@ ghost use Rattle.std.specs.Prelude.{◌≡◌, ◌<◌, IfOk, IfErr};
 ghost use Rattle.code_pairs.specs.Tables.{HasPoints, IsWellFormed, code_of};
 ghost use Rattle.code_table.specs.Faults.{IsTableFault};
 ghost use Rattle.code_table.specs.Images.{root_of, page_count, image_word};
+ghost use Rattle.code_table.specs.Last.{last_point};
 ghost use Rattle.code_table.specs.Looks.{look_of};
 
-use crate::build::{code_pages, see_forms, with_points};
+use crate::build::{code_pages, last_of, see_forms, with_points};
 use crate::fault::TableFault;
 use crate::image::{Layout, bytes_in, code_in};
 use crate::lookup::Look;
@@ -17,23 +18,28 @@ use std::marker::Model;
 use std::snapshot::Snapshot;
 use trie::Flat;
 
-/// A table of codes. A clause sees the list of its pairs; the value has the words of its page image.
+/// A table of codes. A clause sees the list of its pairs; the value has the words of its page image
+/// and the greatest point.
 #[derive(Drop)]
 pub struct CodeTable {
     words: Vec<u64>,
     layout: Layout,
+    last: u32,
     pairs: Snapshot<Vec<Pair>>,
 }
 
 impl Model for CodeTable {
+    ghost use Rattle.std.specs.Prelude.{◌≡◌};
     ghost use Rattle.code_pairs.specs.Tables.{Table};
     ghost use Rattle.code_table.specs.Images.{IsImageOf};
+    ghost use Rattle.code_table.specs.Last.{last_point};
 
     ghost Value = { Table };
 
     ghost view = { λ t. t.pairs.value.items };
 
-    ghost invariant = { λ t. IsImageOf t.pairs.value.items t.layout.root t.layout.pages t.words.items };
+    ghost invariant = { λ t. IsImageOf t.pairs.value.items t.layout.root t.layout.pages t.words.items
+        × (t.last ≡ last_point t.pairs.value.items) };
 }
 
 impl CodeTable {
@@ -53,6 +59,7 @@ impl CodeTable {
         Ok(CodeTable {
             words,
             layout: Layout { root, pages },
+            last: last_of(list),
             pairs: Snapshot::of(&map.pairs),
         })
     }
@@ -77,6 +84,14 @@ impl CodeTable {
             words: self.words.as_slice(),
         };
         bytes_in(&mut words, self.layout, point)
+    }
+
+    /// The greatest point that a pair has; 0 where there is no pair.
+    #[inline(always)]
+    pub fn last(&self) -> u32
+        ensures { result ≡ last_point self.now }
+    {
+        self.last
     }
 
     /// How many pages the page image has.

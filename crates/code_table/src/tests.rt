@@ -71,6 +71,27 @@ fn an_image_has_these_words(rt: HostRuntime) -> Result<(), Fail> {
 }
 
 #[test]
+fn the_last_point_is_the_greatest(rt: HostRuntime) -> Result<(), Fail> {
+    let alloc = rt.alloc();
+    let pairs = vec![in alloc;
+        make_pair(0xA5, &[0x5C]),
+        make_pair(0x203E, &[0x7E]),
+        make_pair(0x41, &[0x41]),
+    ]?;
+    let none = Vec::new(alloc);
+    let some = CodeTable::build(alloc, &Charmap { pairs })?;
+    let empty = CodeTable::build(alloc, &Charmap { pairs: none })?;
+    assert!(&rt; some.last() == 0x203E);
+    assert!(&rt; empty.last() == 0);
+    let owned = Owned {
+        tables: vec![in alloc; empty, some]?,
+    };
+    assert!(&rt; owned.last(0) == 0);
+    assert!(&rt; owned.last(1) == 0x203E);
+    Ok(())
+}
+
+#[test]
 fn an_overlap_is_told(rt: HostRuntime) -> Result<(), Fail> {
     let alloc = rt.alloc();
     let pairs = vec![in alloc;

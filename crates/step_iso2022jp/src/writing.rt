@@ -13,8 +13,9 @@ use crate::reading::is_graphic;
 use code_table::Lookup;
 use step_unicode::{Small, State, Wrote};
 
-/// The byte of a point in the Roman set.
+/// The byte of a point in the Roman set. A point above all of the table's costs no look-up.
 #[inline(always)]
+#[tactic(auto, using(code_table::proofs::LastLaws::beyond_last))]
 fn roman_code<T: Lookup>(tables: &mut T, roman: u32, point: u32) -> Option<u8>
     requires ready { T.ready tables.old }
     requires within { roman < length (T.tables tables.old) }
@@ -24,6 +25,9 @@ fn roman_code<T: Lookup>(tables: &mut T, roman: u32, point: u32) -> Option<u8>
     ensures ready { T.ready tables.new }
     ensures kept { T.kept tables.old tables.new }
 {
+    if point > tables.last(roman) {
+        return None;
+    }
     match tables.bytes(roman, point) {
         Some(code) if code.len() == 1 && is_graphic(code.byte(0)) => Some(code.byte(0)),
         _ => None,

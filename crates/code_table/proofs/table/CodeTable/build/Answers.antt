@@ -5,6 +5,7 @@ use Rattle.trie.proofs.Images.{length-trie}
 use Rattle.code_pairs.specs.Tables.{HasPoints, IsWellFormed}
 use Rattle.code_table.specs.Faults.{IsTableFault}
 use Rattle.code_table.specs.Images.{code_leaves, point_leaves, page_count, IsImageOf}
+use Rattle.code_table.specs.Last.{last_point}
 use Rattle.code_table.proofs.BuildLaws.{root_is, count_is, image_is, well_formed_is}
 use Rattle.code_table.proofs.table.CodeTable.build.Goals as goal
 
@@ -54,12 +55,14 @@ invariant_of-result c =
     let count = count_is list c.len-2.result
     (c.len.result / 256) c.in_ok-words.words.items c.in_ok-words-2.words.items
     (c.len-2.ensures ∙ c.in_ok-words-2.words.ok.0)
-    c.in_ok-words-2.ensures.value c.in_ok-words.ensures.value root in
-    subst (λ t. IsImageOf t (c.len.result / 256) (c.len-2.result / 256) c.in_ok-words-2.words.items) is
-    (image_is list c.in_ok-words.words.items c.in_ok-words-2.words.items (c.len.result / 256)
-    (c.len-2.result / 256) c.see_forms.ensures
-    (subst HasPoints (sym c.as_slice-list.ensures.value) c.requires) c.in_ok-words.ensures.apart
-    c.in_ok-words.ensures.value c.in_ok-words-2.ensures.value c.in_ok-words-2.ensures.few root count)
+    c.in_ok-words-2.ensures.value c.in_ok-words.ensures.value root in (
+      subst (λ t. IsImageOf t (c.len.result / 256) (c.len-2.result / 256) c.in_ok-words-2.words.items) is
+          (image_is list c.in_ok-words.words.items c.in_ok-words-2.words.items (c.len.result / 256)
+          (c.len-2.result / 256) c.see_forms.ensures
+          (subst HasPoints (sym c.as_slice-list.ensures.value) c.requires) c.in_ok-words.ensures.apart
+          c.in_ok-words.ensures.value c.in_ok-words-2.ensures.value c.in_ok-words-2.ensures.few root count),
+      c.last_of.ensures ∙ ap last_point is,
+    )
 
 pub returns-clause-well_formed : goal.returns-clause-well_formed
 returns-clause-well_formed c =
