@@ -12,6 +12,7 @@ mod image;
 mod leaves;
 mod lookup;
 mod owned;
+mod runs;
 mod table;
 #[cfg(test)]
 mod tests;

@@ -7,10 +7,11 @@ ghost use Rattle.code_table.specs.Images.{root_of, page_count, image_word};
 ghost use Rattle.code_table.specs.Last.{last_point};
 ghost use Rattle.code_table.specs.Looks.{look_of};
 
-use crate::build::{code_pages, last_of, see_forms, with_points};
+use crate::build::{code_pages, see_forms, with_points};
 use crate::fault::TableFault;
 use crate::image::{Layout, bytes_in, code_in};
 use crate::lookup::Look;
+use crate::runs::{code_runs, last_of, point_runs};
 use charmap_reader::Charmap;
 use code_pairs::{Code, Pair};
 use std::alloc::Global;
@@ -52,14 +53,17 @@ impl CodeTable {
     {
         let list = map.pairs.as_slice();
         see_forms(list);
-        let words = code_pages(alloc, list)?;
+        let codes = code_runs(alloc, list)?;
+        let last = last_of(list, codes.as_slice());
+        let words = code_pages(alloc, list, codes.as_slice())?;
         let root = (words.len() / 256) as u32;
-        let words = with_points(alloc, words, root, list)?;
+        let points = point_runs(alloc, list, codes.as_slice())?;
+        let words = with_points(alloc, words, root, list, points.as_slice())?;
         let pages = (words.len() / 256) as u32;
         Ok(CodeTable {
             words,
             layout: Layout { root, pages },
-            last: last_of(list),
+            last,
             pairs: Snapshot::of(&map.pairs),
         })
     }

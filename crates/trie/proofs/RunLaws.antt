@@ -1,16 +1,16 @@
 -- Leaves as runs: the heads alone say which strings paths go on from.
-use Rattle.std.proofs.Common.{◌≡◌, ℕ, zero, suc, ◌+◌, ◌-◌, ◌*◌, ◌^◌, ◌<◌, ◌≤◌, Bool, true, false, eqb, ◌||◌, ◌&&◌, List, [], ◌∷◌, ◌++◌, length, get_or, take, drop, map, replicate, None, refl, sym, ap, ◌∙◌, subst, inl, inr, arith, add-one, append_assoc, append-nil, length-append, Result, Ok, Err}
-use Rattle.std.specs.List.{flat_map, filter, list_any}
+use Rattle.std.proofs.Common.{◌≡◌, ℕ, zero, suc, ◌+◌, ◌^◌, ◌<◌, ◌≤◌, Bool, true, false, eqb, ◌||◌, ◌&&◌, List, [], ◌∷◌, ◌++◌, length, get_or, take, drop, replicate, None, refl, sym, ap, ◌∙◌, subst, inl, inr, arith, append_assoc, append-nil, length-append, Result, Ok, Err}
+use Rattle.std.specs.List.{flat_map, filter}
 use Rattle.std.proofs.lemmas.List.{get_or_append_left, get_or-append-add, get_or-take, length-take, take_more, take-append-drop}
 use Rattle.std.proofs.lemmas.List.Folds.{list_any-append}
 use Rattle.std.proofs.lemmas.Grind.{flat_map-append}
-use Rattle.std.proofs.lemmas.Bool.{cases_Bool, cases_eq, eqb-true, ne_eqb}
+use Rattle.std.proofs.lemmas.Bool.{cases_Bool, cases_eq, eqb-true}
 use Rattle.std.specs.Result.{OnOk, IsErr}
 use Rattle.std.specs.Str.{bytes_eq}
-use Rattle.trie.specs.Fronts.{AreShort, AreLong, is_proper_prefix, is_front, level, fronts, pages, children}
+use Rattle.trie.specs.Fronts.{AreShort, AreLong, is_proper_prefix, is_front, level, fronts, children}
 use Rattle.trie.specs.Leaf.{Leaf}
 use Rattle.trie.specs.Runs.{raised, later, is_next, Run, run_from, all_of, heads}
-use Rattle.trie.specs.Stages.{numbered, IsStage, ref_cell}
+use Rattle.trie.specs.Stages.{numbered, IsStage}
 use Rattle.trie.specs.Trie.{place_of, cell_word}
 use Rattle.trie.proofs.Fronts.{Has, kept_has, begins_short, level_length, false_true}
 use Rattle.trie.proofs.Places.{bytes_equal}
@@ -271,13 +271,12 @@ run_last leaves i n h d lt is =
 
 -- one leaf more in a run
 pub run_grows : (leaves : List Leaf) (i n : ℕ) (h : Leaf) → i + n + 1 < length leaves →
-    is_next (get_or leaves (i + n) h) (get_or leaves (i + n + 1) h) ≡ true →
+    get_or leaves (i + n + 1) h ≡ later 1 (get_or leaves (i + n) h) →
     take (i + (n + 1)) leaves ≡ take i leaves ++ run_from h (n + 1) →
     take (i + (n + 1 + 1)) leaves ≡ take i leaves ++ run_from h (n + 1 + 1)
 run_grows leaves i n h lt t is =
     let next : get_or leaves (i + n + 1) h ≡ later (n + 1) h =
-    next_is (get_or leaves (i + n) h) (get_or leaves (i + n + 1) h) t
-    ∙ ap (later 1) (run_last leaves i n h h (omega arith) is) ∙ later_more n h in
+    t ∙ ap (later 1) (run_last leaves i n h h (omega arith) is) ∙ later_more n h in
     ap (λ k. take k leaves) (let e : i + (n + 1 + 1) ≡ i + n + 1 + 1 = omega arith in e)
     ∙ take_more leaves (i + n + 1) h lt
     ∙ ap (λ k. take k leaves ++ get_or leaves (i + n + 1) h ∷ []) (let e : i + n + 1 ≡ i + (n + 1) = omega arith in e)

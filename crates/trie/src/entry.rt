@@ -5,9 +5,9 @@ use std::marker::Model;
 /// A string of 1 to 4 bytes and the word that it leads to, which is below 2^62.
 #[derive(Drop)]
 pub struct Entry {
-    bytes: [u8; 4],
-    count: u8,
-    word: u64,
+    pub(crate) bytes: [u8; 4],
+    pub(crate) count: u8,
+    pub(crate) word: u64,
 }
 
 impl Model for Entry {
@@ -61,9 +61,8 @@ impl Entry {
 
 /// Leaves in some order, each made when it is asked for.
 pub trait Leaves {
-    ghost use Rattle.std.specs.Prelude.{◌≡◌, ◌<◌, ◌-◌, List, length, slice_get, get_or, Some};
+    ghost use Rattle.std.specs.Prelude.{◌≡◌, ◌<◌, List, length, slice_get, Some};
     ghost use Rattle.trie.specs.Leaf.{Leaf};
-    ghost use Rattle.trie.specs.Runs.{is_next};
 
     /// All leaves. The first one with a path gives the path's word.
     ghost leaves: { Self → List Leaf };
@@ -76,12 +75,4 @@ pub trait Leaves {
     fn leaf(&self, place: usize) -> Entry
         requires { place < length (leaves self.now) }
         ensures { slice_get (leaves self.now) place ≡ Some result };
-
-    /// Whether the leaf at a place stands next to the one before it in a run: the last byte of the
-    /// path and the word are greater by one, and all else is the same.
-    fn follows(&self, place: usize) -> bool
-        requires some { 0 < place }
-        requires within { place < length (leaves self.now) }
-        ensures { (d : Leaf) →
-            result ≡ is_next (get_or (leaves self.now) (place - 1) d) (get_or (leaves self.now) place d) };
 }

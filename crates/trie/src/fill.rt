@@ -65,10 +65,9 @@ pub fn fill(words: &mut Vec<u64>, first: u32, runs: &[Run])
     ensures same { take (256 * first) words.new.items ≡ take (256 * first) words.old.items }
 {
     for run in runs {
-        let head = run.head();
-        let path = head.path();
+        let path = run.path();
         let last = path.len() - 1;
         let page = front_page(words.as_slice(), first, &path[..last]);
-        put_run(words, page, path[last], HIT + head.word(), run.count());
+        put_run(words, page, path[last], HIT + run.word(), run.count());
     }
 }

@@ -21,7 +21,7 @@ pub fn lengths_of(runs: &[Run]) -> Lengths
     let mut shortest = 4;
     let mut longest = 0;
     for run in runs {
-        let len = run.head().path().len();
+        let len = run.path().len();
         shortest = len.min(shortest);
         longest = len.max(longest);
     }

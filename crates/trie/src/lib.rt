@@ -13,7 +13,6 @@ mod levels;
 mod marks;
 mod overlap;
 mod run;
-mod runs;
 #[cfg(test)]
 mod tests;
 mod trie;
@@ -21,6 +20,7 @@ mod walk;
 mod words;
 
 pub use entry::{Entry, Leaves};
+pub use run::Run;
 pub use trie::{Fault, with_trie};
 pub use walk::{Walk, look};
 pub use words::{Flat, Words};

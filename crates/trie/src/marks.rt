@@ -59,7 +59,7 @@ pub fn marks(
 {
     let mut marked = vec![in alloc; false; count * 256]?;
     for run in runs {
-        let path = run.head().path();
+        let path = run.path();
         if path.len() > depth + 1 {
             mark(
                 &mut marked,

@@ -86,7 +86,7 @@ fn none_goes_on(words: &[u64], first: u32, runs: &[Run]) -> bool
     ensures { IsTrue result → NoneGoesOn (all_of runs.now) }
 {
     for run in runs {
-        let path = run.head().path();
+        let path = run.path();
         let last = path.len() - 1;
         let page = front_page(words, first, &path[..last]);
         if is_some_behind(words, page, path[last], run.count()) {

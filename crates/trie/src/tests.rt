@@ -2,7 +2,8 @@
 
 ghost use Rattle.std.specs.Prelude.{◌<◌, length};
 
-use crate::{Entry, Fault, Flat, Leaves, Walk, look, with_trie};
+use crate::{Entry, Fault, Flat, Leaves, Run, Walk, look, with_trie};
+use std::alloc::Global;
 use std::test::Fail;
 
 /// A path of one byte or two, and its word.
@@ -25,8 +26,9 @@ impl Leaves for Rows {
     ghost use Rattle.trie.specs.Leaf.{Leaf};
 
     ghost leaves = { λ r. map (λ row. record {
-        path = row.first ∷ (if row.long then row.second ∷ [] else []);
-        word = row.word }) r.rows.items };
+      path = row.first ∷ (if row.long then row.second ∷ [] else []);
+      word = row.word;
+    }) r.rows.items };
 
     fn count(&self) -> usize {
         self.rows.len()
@@ -40,17 +42,6 @@ impl Leaves for Rows {
             Entry::new([row.first, 0, 0, 0], 1, row.word as u64)
         }
     }
-
-    fn follows(&self, place: usize) -> bool {
-        let before = &self.rows[place - 1];
-        let row = &self.rows[place];
-        let raised = if row.long && before.long {
-            row.first == before.first && row.second as u16 == before.second as u16 + 1
-        } else {
-            !row.long && !before.long && row.first as u16 == before.first as u16 + 1
-        };
-        raised && row.word as u16 == before.word as u16 + 1
-    }
 }
 
 /// What a trie has for some bytes.
@@ -58,6 +49,18 @@ fn find(words: &[u64], bytes: &[u8]) -> Walk
     requires { 0 < length bytes.now }
 {
     look(&mut Flat { words }, 0, bytes)
+}
+
+/// A trie of leaves, each of them a run of its own.
+fn make_trie<L: Leaves>(alloc: Global, leaves: &L) -> Result<Vec<u64>, Fault> {
+    let mut runs = Vec::new(alloc);
+    for at in 0..leaves.count() {
+        let leaf = leaves.leaf(at);
+        let Ok(()) = runs.push(Run::new(leaf, 0)) else {
+            return Err(Fault::Memory);
+        };
+    }
+    with_trie(alloc, Vec::new(alloc), 0, leaves, runs.as_slice())
 }
 
 fn make_row(first: u8, second: u8, long: bool, word: u8) -> Row {
@@ -79,7 +82,7 @@ fn bytes_lead_to_words(rt: HostRuntime) -> Result<(), Fail> {
             make_row(0x41, 0, false, 9),
         ]?,
     };
-    let Ok(words) = with_trie(alloc, Vec::new(alloc), 0, &rows) else {
+    let Ok(words) = make_trie(alloc, &rows) else {
         panic!(&rt; "a trie was expected");
     };
     assert!(&rt; words.len() == 512);
@@ -88,31 +91,6 @@ fn bytes_lead_to_words(rt: HostRuntime) -> Result<(), Fail> {
     assert!(&rt; find(words.as_slice(), &[0x81]) == Walk::Inside);
     assert!(&rt; find(words.as_slice(), &[0x81, 0xfd]) == Walk::Outside);
     assert!(&rt; find(words.as_slice(), &[0x42]) == Walk::Outside);
-    Ok(())
-}
-
-#[test]
-fn a_run_leads_to_words_that_grow(rt: HostRuntime) -> Result<(), Fail> {
-    let alloc = rt.alloc();
-    let rows = Rows {
-        rows: vec![in alloc;
-            make_row(0x81, 0xfd, true, 7),
-            make_row(0x81, 0xfe, true, 8),
-            make_row(0x81, 0xff, true, 9),
-            make_row(0x82, 0x00, true, 10),
-            make_row(0x82, 0x01, true, 12),
-            make_row(0x81, 0xff, true, 13),
-        ]?,
-    };
-    let Ok(words) = with_trie(alloc, Vec::new(alloc), 0, &rows) else {
-        panic!(&rt; "a trie was expected");
-    };
-    assert!(&rt; words.len() == 768);
-    assert!(&rt; find(words.as_slice(), &[0x81, 0xfd]) == Walk::Word { word: 7, used: 2 });
-    assert!(&rt; find(words.as_slice(), &[0x81, 0xff]) == Walk::Word { word: 9, used: 2 });
-    assert!(&rt; find(words.as_slice(), &[0x82, 0x00]) == Walk::Word { word: 10, used: 2 });
-    assert!(&rt; find(words.as_slice(), &[0x82, 0x01]) == Walk::Word { word: 12, used: 2 });
-    assert!(&rt; find(words.as_slice(), &[0x82, 0x02]) == Walk::Outside);
     Ok(())
 }
 
@@ -128,7 +106,7 @@ fn a_path_may_not_go_on(rt: HostRuntime) -> Result<(), Fail> {
             make_row(0x41, 0, false, 5),
         ]?,
     };
-    match with_trie(alloc, Vec::new(alloc), 0, &rows) {
+    match make_trie(alloc, &rows) {
         Err(Fault::Overlap { first, second }) => assert!(&rt; first == 4 && second == 3),
         _ => panic!(&rt; "an overlap was expected"),
     }

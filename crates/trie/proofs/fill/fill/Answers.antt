@@ -1,5 +1,4 @@
-use Rattle.std.proofs.Common.{◌≡◌, ◌≤◌, ◌<◌, ◌+◌, ◌-◌, ◌*◌, ◌^◌, ◌∙◌, ℕ, suc, List, arith, sym, ap, subst, get_or, take, length, add-one}
-use Rattle.trie.specs.Leaf.{Leaf}
+use Rattle.std.proofs.Common.{◌≡◌, ◌≤◌, ◌<◌, ◌+◌, ◌-◌, ◌*◌, ◌^◌, ◌∙◌, ℕ, List, arith, sym, ap, subst, get_or, take, length, add-one}
 use Rattle.trie.specs.Fronts.{pages}
 use Rattle.trie.specs.Runs.{Run, all_of, later}
 use Rattle.trie.specs.Stages.{put_run, Holds}
@@ -26,15 +25,13 @@ loop-run-preserved c =
     let i = start runs k in
     let n = r.more + 1 in
     let here : r ≡ get_or runs k r = c.run-item.is in
-    let head : c.head-head.result.now ≡ h = c.head-head.ensures.value in
     let p = c.path-path.result.now in
-    let path : p ≡ h.path = c.path-path.ensures.value ∙ ap (λ (x : Leaf). x.path) head in
+    let path : p ≡ h.path = c.path-path.ensures.value in
     let fits : AreBytes p = λ j. omega (arith, c.path-path.items_fit j) in
     let few : length h.path ≡ length h.path - 1 + 1 = omega (arith, ap length path, c.path-path.ensures.some) in
     let short : length h.path - 1 ≤ 3 = omega (arith, ap length path, c.path-path.ensures.few) in
     let room : get_or h.path (length h.path - 1) 0 + n ≤ 256 =
-    subst (λ (x : Leaf). get_or x.path (length x.path - 1) 0 + n ≤ 256) head
-    (omega (arith, c.head-head.ensures.room)) in
+    subst (λ q. get_or q (length q - 1) 0 + n ≤ 256) path (omega (arith, c.path-path.ensures.room)) in
     let more : (get_or runs k r).more ≡ r.more = ap (λ (x : Run). x.more) (sym here) in
     let next : start runs (k + 1) ≡ i + n =
     ap (start runs) (add-one k) ∙ next_start runs k r (omega arith)
@@ -54,8 +51,8 @@ loop-run-preserved c =
     (c.front_page-page.ensures
     ∙ ap (λ x. front_page x first (take (length p - 1) p)) c.as_slice.ensures.value)
     ∙ ap (λ x. with_run ws first x c.word.result c.count.result) path
-    ∙ ap (λ w. with_run ws first h.path w c.count.result) (c.word.ensures.value ∙ ap (λ (x : Leaf). x.word) head)
-    ∙ ap (with_run ws first h.path h.word) c.count.ensures.value in
+    ∙ ap (λ w. with_run ws first h.path w c.count.result) c.word.ensures.value
+    ∙ ap (with_run ws first h.path h.word) c.count.ensures in
     record {
       holds = subst (λ j. Holds (take j leaves) leaves first c.put_run.new.words.items) (sym next)
           (subst (λ x. Holds (take (i + n) leaves) leaves first x) (sym new) step.holds);

@@ -14,8 +14,8 @@ loop-run-preserved c =
     let d = r.head in
     let here : r ≡ get_or runs i r = c.run-item.is in
     let path : c.path-len.result.now ≡ (get_or leaves i d).path =
-    c.path-len.ensures.value ∙ ap (λ (l : Leaf). l.path) (c.head.ensures.value
-    ∙ ap (λ (x : Run). x.head) here ∙ sym (get_or-map (λ (x : Run). x.head) runs i r d (omega arith))) in
+    c.path-len.ensures.value ∙ ap (λ (l : Leaf). l.path) (ap (λ (x : Run). x.head) here
+    ∙ sym (get_or-map (λ (x : Run). x.head) runs i r d (omega arith))) in
     let within : i < length leaves = omega (arith, length-map runs (λ (x : Run). x.head)) in
     let long = c.max-longest.ensures in
     let short = c.min-shortest.ensures in

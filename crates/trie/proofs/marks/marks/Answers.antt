@@ -27,8 +27,8 @@ loop-run-preserved c =
     let here : r ≡ get_or runs i r = c.run-item.is in
     let within : i < length leaves = omega (arith, length-map runs (λ (x : Run). x.head)) in
     let path : c.path-path.result.now ≡ (get_or leaves i d).path =
-    c.path-path.ensures.value ∙ ap (λ (l : Leaf). l.path) (c.head.ensures.value
-    ∙ ap (λ (x : Run). x.head) here ∙ sym (get_or-map (λ (x : Run). x.head) runs i r d (omega arith))) in
+    c.path-path.ensures.value ∙ ap (λ (l : Leaf). l.path) (ap (λ (x : Run). x.head) here
+    ∙ sym (get_or-map (λ (x : Run). x.head) runs i r d (omega arith))) in
     elim c.if-path-depth.branch [
       | then-path-depth w ↦
           let fits : AreBytes c.path-path.result.now = λ j. omega (arith, c.path-path.items_fit j) in

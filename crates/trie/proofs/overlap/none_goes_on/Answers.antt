@@ -1,5 +1,4 @@
-use Rattle.std.proofs.Common.{◌≡◌, ◌≤◌, ◌<◌, ◌+◌, ◌-◌, ◌∙◌, ℕ, suc, List, Bool, false, arith, sym, ap, subst, get_or, take, length, add-one}
-use Rattle.std.proofs.lemmas.List.{take_all}
+use Rattle.std.proofs.Common.{◌≡◌, ◌≤◌, ◌<◌, ◌+◌, ◌-◌, ◌∙◌, ℕ, false, arith, sym, ap, subst, get_or, take, length, add-one}
 use Rattle.trie.specs.Leaf.{Leaf}
 use Rattle.trie.specs.Runs.{Run, all_of, later}
 use Rattle.trie.specs.Stages.{some_behind}
@@ -21,15 +20,13 @@ loop-run-preserved c =
     let i = start runs k in
     let n = r.more + 1 in
     let here : r ≡ get_or runs k r = c.run-item.is in
-    let head : c.head.result.now ≡ h = c.head.ensures.value in
     let p = c.path-path.result.now in
-    let path : p ≡ h.path = c.path-path.ensures.value ∙ ap (λ (x : Leaf). x.path) head in
+    let path : p ≡ h.path = c.path-path.ensures.value in
     let fits : AreBytes p = λ j. omega (arith, c.path-path.items_fit j) in
     let few : length h.path ≡ length h.path - 1 + 1 = omega (arith, ap length path, c.path-path.ensures.some) in
     let short : length h.path - 1 ≤ 3 = omega (arith, ap length path, c.path-path.ensures.few) in
     let room : get_or h.path (length h.path - 1) 0 + n ≤ 256 =
-    subst (λ (x : Leaf). get_or x.path (length x.path - 1) 0 + n ≤ 256) head
-    (omega (arith, c.head.ensures.room)) in
+    subst (λ q. get_or q (length q - 1) 0 + n ≤ 256) path (omega (arith, c.path-path.ensures.room)) in
     let more : (get_or runs k r).more ≡ r.more = ap (λ (x : Run). x.more) (sym here) in
     let next : start runs (k + 1) ≡ i + n =
     ap (start runs) (add-one k) ∙ next_start runs k r (omega arith)
@@ -42,7 +39,7 @@ loop-run-preserved c =
     (get_or h.path (length h.path - 1) 0) n ≡ false =
     ap (λ q. some_behind ws (front_page ws first (take (length q - 1) q)) (get_or q (length q - 1) 0) n) (sym path)
     ∙ ap (λ o. some_behind ws o (get_or p (length p - 1) 0) n) (sym c.front_page-page.ensures)
-    ∙ ap (some_behind ws c.front_page-page.result (get_or p (length p - 1) 0)) (sym c.count.ensures.value)
+    ∙ ap (some_behind ws c.front_page-page.result (get_or p (length p - 1) 0)) (sym c.count.ensures)
     ∙ sym c.is_some_behind.ensures ∙ c.if-is_some_behind.false in
     subst (NoneBefore leaves) (sym next)
     (none_step leaves first i (length h.path - 1) n h ws c.requires.short c.requires.stage

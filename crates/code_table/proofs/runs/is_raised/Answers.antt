@@ -2,7 +2,7 @@ use Rattle.std.proofs.Common.{◌≡◌, ◌≢◌, ◌-◌, ◌%◌, ◌∙◌,
 use Rattle.std.specs.Prelude.{nat_eq}
 use Rattle.code_pairs.specs.Bytes.{value_of}
 use Rattle.code_table.proofs.Raised.{not_raised, raised_test}
-use Rattle.code_table.proofs.leaves.is_raised.Goals as goal
+use Rattle.code_table.proofs.runs.is_raised.Goals as goal
 
 pub returns-then-len : goal.returns-then-len
 returns-then-len c =
