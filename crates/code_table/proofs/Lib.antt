@@ -7,3 +7,4 @@ pub mod PointPaths
 pub mod ImageLaws
 pub mod BuildLaws
 pub mod Raised
+pub mod RunPairs

@@ -47,6 +47,42 @@ fn a_table_answers_both_ways(rt: HostRuntime) -> Result<(), Fail> {
 }
 
 #[test]
+fn a_range_passes_from_row_to_row(rt: HostRuntime) -> Result<(), Fail> {
+    let alloc = rt.alloc();
+    let pairs = vec![in alloc;
+        make_pair(0xFE, &[0x81, 0xfd]),
+        make_pair(0xFF, &[0x81, 0xfe]),
+        make_pair(0x100, &[0x81, 0xff]),
+        make_pair(0x101, &[0x82, 0x00]),
+        make_pair(0x102, &[0x82, 0x01]),
+        make_pair(0x102, &[0x82, 0x02]),
+    ]?;
+    let table = CodeTable::build(alloc, &Charmap { pairs })?;
+    // the root, two rows of codes; the root, a plane, two rows of points
+    assert!(&rt; table.pages() == 7);
+    assert!(&rt;
+        table.code(&[0x81, 0xff])
+            == Look::Point {
+                point: 0x100,
+                used: 2
+            }
+    );
+    assert!(&rt;
+        table.code(&[0x82, 0x02])
+            == Look::Point {
+                point: 0x102,
+                used: 2
+            }
+    );
+    assert!(&rt; table.code(&[0x82, 0x03]) == Look::Nothing);
+    assert!(&rt; table.bytes(0x100) == Some(Code::from_bytes(&[0x81, 0xff])));
+    assert!(&rt; table.bytes(0x102) == Some(Code::from_bytes(&[0x82, 0x01])));
+    assert!(&rt; table.bytes(0x103) == None);
+    assert!(&rt; table.last() == 0x102);
+    Ok(())
+}
+
+#[test]
 fn an_image_has_these_words(rt: HostRuntime) -> Result<(), Fail> {
     let alloc = rt.alloc();
     let pairs = vec![in alloc; make_pair(0x41, &[0x41]), make_pair(0x41, &[0x42])]?;

@@ -1,6 +1,7 @@
 use Rattle.std.proofs.Common.{◌≡◌, ◌<◌, ◌+◌, ◌∙◌, ◌*◌, ◌/◌, ◌^◌, length, sym, ap, subst, arith}
 use Rattle.std.proofs.lemmas.Result.{err_from_is_err_and}
 use Rattle.trie.specs.Fronts.{pages}
+use Rattle.trie.specs.Runs.{all_of}
 use Rattle.trie.proofs.Images.{length-trie}
 use Rattle.code_pairs.specs.Tables.{HasPoints, IsWellFormed}
 use Rattle.code_table.specs.Faults.{IsTableFault}
@@ -16,8 +17,11 @@ overflow_cast-root c =
     let few : c.len.result / 256 < 2 ^ 32 = subst (λ n. n < 2 ^ 32) (sym root) c.in_ok-words.ensures.few in
     omega (arith, few)
 
-pub with_points-requires : goal.with_points-requires
-with_points-requires c =
+pub with_points-requires-clause-runs : goal.with_points-requires-clause-runs
+with_points-requires-clause-runs c = ap all_of c.as_slice-4.ensures.value ∙ c.in_ok-points.ensures
+
+pub with_points-requires-clause-size : goal.with_points-requires-clause-size
+with_points-requires-clause-size c =
     let list = c.as_slice-list.result.now in
     ap length c.in_ok-words.ensures.value ∙ length-trie (code_leaves list) 0
     ∙ ap (λ n. 256 * n) (sym
@@ -30,6 +34,12 @@ returns-in_err-words-2-clause-refused c =
     c.from_residual-in_err-words-2.ensures.1 in
     rw (p.1, p.2) (subst (λ t. IsTableFault t c.in_err-words-2.field-0.0) c.as_slice-list.ensures.value
     c.in_err-words-2.ensures.refused)
+
+pub returns-in_err-points-clause-refused : goal.returns-in_err-points-clause-refused
+returns-in_err-points-clause-refused c =
+    let p = err_from_is_err_and c.from_residual-in_err-points.result
+    c.from_residual-in_err-points.ensures.1 in
+    rw (p.1, p.2) tt
 
 pub overflow_cast-pages : goal.overflow_cast-pages
 overflow_cast-pages c =
@@ -61,7 +71,7 @@ invariant_of-result c =
           (c.len-2.result / 256) c.see_forms.ensures
           (subst HasPoints (sym c.as_slice-list.ensures.value) c.requires) c.in_ok-words.ensures.apart
           c.in_ok-words.ensures.value c.in_ok-words-2.ensures.value c.in_ok-words-2.ensures.few root count),
-      c.last_of.ensures ∙ ap last_point is,
+      c.last_of-last.ensures ∙ ap last_point is,
     )
 
 pub returns-clause-well_formed : goal.returns-clause-well_formed
