@@ -24,8 +24,8 @@ pub enum Walk {
 pub fn page_in(word: u64) -> Option<u32>
     ensures { result ≡ page_in word }
 {
-    if word >= REF && word < REF + (1 << 32) {
-        Some((word - REF) as u32)
+    if word / (1 << 32) == REF / (1 << 32) {
+        Some((word % (1 << 32)) as u32)
     } else {
         None
     }
