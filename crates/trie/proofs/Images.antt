@@ -1,15 +1,18 @@
 -- Words that hold a trie's pages are its image, and a walk along them finds what the leaves say.
-use Rattle.std.proofs.Common.{◌≡◌, ℕ, ◌+◌, ◌*◌, ◌/◌, ◌%◌, ◌^◌, ◌<◌, ◌≤◌, List, ◌++◌, length, get_or, take, drop, refl, sym, ap, ◌∙◌, arith}
+use Rattle.std.proofs.Common.{◌≡◌, ℕ, ◌+◌, ◌-◌, ◌*◌, ◌/◌, ◌%◌, ◌^◌, ◌<◌, ◌≤◌, List, [], ◌∷◌, ◌++◌, length, get_or, take, drop, Option, Some, None, refl, sym, ap, ◌∙◌, arith, length-append}
 use Rattle.std.specs.List.{flat_map}
 use Rattle.std.proofs.lemmas.List.{take-append-drop, length-map, length-drop, get_or-drop, get_or_append_left, get_or-append-add}
 use Rattle.std.proofs.lemmas.Grind.{same_number_lists}
-use Rattle.trie.specs.Fronts.{AreShort, pages, children}
+use Rattle.std.specs.Prelude.{unwrap_or}
+use Rattle.trie.specs.Fronts.{AreShort, word_at, pages, children}
 use Rattle.trie.specs.Look.{look_of}
 use Rattle.trie.specs.Stages.{Holds}
-use Rattle.trie.specs.Trie.{cell, trie, IsTrieAt}
-use Rattle.trie.specs.Words.{walk_words}
+use Rattle.trie.specs.Trie.{cell, cell_word, place_of, trie, IsTrieAt}
+use Rattle.trie.specs.Pages.{HasPages, IsPageIn}
+use Rattle.trie.specs.Words.{walk_words, page_in, word_in}
 use Rattle.trie.specs.Leaf.{Leaf}
-use Rattle.trie.proofs.Walks.{walks, AreBytes}
+use Rattle.trie.proofs.Places.{some_none, place_there}
+use Rattle.trie.proofs.Walks.{walks, AreBytes, page_in_ref, page_in_word}
 use Rattle.trie.proofs.Fronts.{placed}
 use Rattle.trie.proofs.Fills.{some_page}
 use Rattle.trie.proofs.Distinct.{cells_at, length-all_children}
@@ -77,6 +80,11 @@ words_are leaves first before levels ws size same kept h all =
     ∙ ap (λ xs. xs ++ drop (256 * first) ws) (kept ∙ ap (λ n. take n levels) (sym size) ∙ same)
     ∙ ap (λ xs. before ++ xs) (image_is leaves first ws h all)
 
+-- a trie has the words of its pages
+pub length-trie : (leaves : List Leaf) (first : ℕ) → length (trie leaves first) ≡ 256 * length (pages leaves)
+length-trie leaves first = length-map (flat_map children (pages leaves)) (cell leaves first (pages leaves))
+    ∙ length-all_children (pages leaves)
+
 -- where a trie follows some words, it stands there
 pub trie_stands : (leaves : List Leaf) (first : ℕ) (before ws : List ℕ) → AreShort 4 leaves →
     first + length (pages leaves) < 2 ^ 32 → length before ≡ 256 * first
@@ -84,16 +92,12 @@ pub trie_stands : (leaves : List Leaf) (first : ℕ) (before ws : List ℕ) → 
 trie_stands leaves first before ws short few size is = record {
   short = short;
   few = few;
+  within = omega (arith, ap length is, length-append before (trie leaves first), length-trie leaves first, size);
   same = λ i lt.
       ap (λ xs. get_or xs (256 * first + i) 0) is
       ∙ ap (λ n. get_or (before ++ trie leaves first) (n + i) 0) (sym size)
       ∙ get_or-append-add before (trie leaves first) i 0;
 }
-
--- a trie has the words of its pages
-pub length-trie : (leaves : List Leaf) (first : ℕ) → length (trie leaves first) ≡ 256 * length (pages leaves)
-length-trie leaves first = length-map (flat_map children (pages leaves)) (cell leaves first (pages leaves))
-    ∙ length-all_children (pages leaves)
 
 -- where more words follow, a trie still stands
 pub trie_extends : (leaves : List Leaf) (first : ℕ) (ws more : List ℕ) →
@@ -102,6 +106,33 @@ pub trie_extends : (leaves : List Leaf) (first : ℕ) (ws more : List ℕ) →
 trie_extends leaves first ws more room at = record {
   short = at.short;
   few = at.few;
+  within = omega (arith, room, length-append ws more);
   same = λ i lt. get_or_append_left ws more 0 (256 * first + i) (omega (arith, length-trie leaves first))
       ∙ at.same i lt;
 }
+
+refers : (first n : ℕ) (o place : Option ℕ) (next : ℕ) → ((j : ℕ) → place ≡ Some j → j < n) →
+    first + n ≤ 2 ^ 32 → page_in (cell_word first o place) ≡ Some next → (first ≤ next) × (next < first + n)
+refers first n (Some w) place next within few e = absurd (some_none (sym e ∙ page_in_word w))
+refers first n None (Some j) next within few e =
+    let lt = within j refl in
+    let same : next ≡ first + j =
+    ap (λ o. unwrap_or o 0) (sym e ∙ page_in_ref (first + j) (omega (arith, lt))) in
+    (omega (arith, same), omega (arith, same, lt))
+refers first n None None next within few e = absurd (some_none (sym e))
+
+-- a trie's references lead to its pages
+pub trie_pages : (leaves : List Leaf) (first : ℕ) (ws : List ℕ) → IsTrieAt leaves first ws → IsPageIn ws first
+trie_pages leaves first ws at =
+    let h = trie_holds leaves first ws at in
+    let ps = pages leaves in
+    (first, length ps, record {
+      within = at.within;
+      closed = λ page b next low high small e.
+          let k = page - first in
+          let place : first + k ≡ page = omega (arith, low) in
+          let q = get_or ps k [] ++ b ∷ [] in
+          refers first (length ps) (word_at leaves q) (place_of q ps) next
+          (λ j is. (place_there q ps j is).within) h.few
+          (ap page_in (sym (h.words k b (omega (arith, high)) small) ∙ ap (λ x. word_in ws x b) place) ∙ e);
+    }, omega arith, omega (arith, some_page leaves))

@@ -1,5 +1,6 @@
 -- Walks along words that are a trie's.
-use Rattle.std.proofs.Common.{◌≡◌, ℕ, suc, ◌+◌, ◌^◌, ◌<◌, ◌≤◌, Bool, true, false, List, [], ◌∷◌, ◌++◌, length, get_or, Option, Some, None, refl, ap, ◌∙◌, inl, inr, arith, length-append, ltb}
+use Rattle.std.proofs.Common.{◌≡◌, ℕ, suc, ◌+◌, ◌^◌, ◌<◌, ◌≤◌, Bool, true, false, List, [], ◌∷◌, ◌++◌, length, get_or, drop, Option, Some, None, refl, sym, ap, ◌∙◌, inl, inr, arith, length-append, ltb}
+use Rattle.std.proofs.lemmas.List.{drop_more}
 use Rattle.std.proofs.lemmas.Bool.{cases_Bool, le-leb, lt-ltb, ltb-true}
 use Rattle.trie.specs.Fronts.{word_at, is_front}
 use Rattle.trie.specs.Trie.{place_of, cell, cell_word}
@@ -96,3 +97,13 @@ walks leaves first ps ws h p (b ∷ bs) k used lt e ok =
     walks leaves first ps ws h p bs j (length q + 1) r.within
     (ap (λ n. n) (omega (arith, ap length r.there, length-append q (b ∷ [])))) (tail_bytes b bs ok)
     ∙ ap (λ v. walk_on leaves v bs) r.there)))
+
+-- one reference of a walk followed
+pub walk_more : (ws vs : List ℕ) (page used next i : ℕ) (bs : List ℕ) → vs ≡ ws → i < length bs →
+    page_in (word_in ws page (get_or bs i 0)) ≡ Some next →
+    walk_words vs next (used + 1) (drop (i + 1) bs) ≡ walk_words ws page used (drop i bs)
+walk_more ws vs page used next i bs same lt e =
+    ap (λ x. walk_words x next (used + 1) (drop (i + 1) bs)) same
+    ∙ ap (λ o. walk_step (word_in ws page (get_or bs i 0)) (used + 1) o
+    (λ n. walk_words ws n (used + 1) (drop (i + 1) bs))) (sym e)
+    ∙ ap (walk_words ws page used) (sym (drop_more bs i 0 lt))

@@ -3,6 +3,7 @@ pub mod Fronts
 pub mod Runs
 pub mod Trie
 pub mod Words
+pub mod Pages
 pub mod Look
 pub mod Stages
 pub mod Overlaps

@@ -1,5 +1,5 @@
 -- Words that strings of bytes lead to, kept in pages of 256 words.
-use Rattle.std.specs.Prelude.{◌≡◌, ◌<◌, ℕ, ◌+◌, ◌*◌, ◌^◌, if◌then◌else◌, List, [], ◌∷◌, length, map, slice_index, Option, Some, None}
+use Rattle.std.specs.Prelude.{◌≡◌, ◌<◌, ◌≤◌, ℕ, ◌+◌, ◌*◌, ◌^◌, if◌then◌else◌, List, [], ◌∷◌, length, map, slice_index, Option, Some, None}
 use Rattle.std.specs.List.{flat_map}
 use Rattle.std.specs.Option.{option_map}
 use Rattle.std.specs.Str.{bytes_eq}
@@ -29,5 +29,6 @@ trie leaves first = map (cell leaves first (pages leaves)) (flat_map children (p
 pub record IsTrieAt (leaves : List Leaf) (first : ℕ) (words : List ℕ) : Type 0 where
   pub short : AreShort 4 leaves
   pub few : first + length (pages leaves) < 2 ^ 32
+  pub within : 256 * (first + length (pages leaves)) ≤ length words
   pub same : (i : ℕ) → i < length (trie leaves first) →
       slice_index words (256 * first + i) ≡ slice_index (trie leaves first) i

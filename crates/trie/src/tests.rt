@@ -1,6 +1,7 @@
 //! Tries of a few leaves.
 
-ghost use Rattle.std.specs.Prelude.{◌<◌, length};
+ghost use Rattle.std.specs.Prelude.{◌<◌, length, IfOk};
+ghost use Rattle.trie.specs.Trie.{IsTrieAt};
 
 use crate::{Entry, Fault, Flat, Leaves, Run, Walk, look, with_trie};
 use std::alloc::Global;
@@ -44,15 +45,18 @@ impl Leaves for Rows {
     }
 }
 
-/// What a trie has for some bytes.
-fn find(words: &[u64], bytes: &[u8]) -> Walk
-    requires { 0 < length bytes.now }
+/// What a trie of leaves has for some bytes.
+fn find<L: Leaves>(_leaves: &L, words: &[u64], bytes: &[u8]) -> Walk
+    requires trie { IsTrieAt (L.leaves _leaves.now) 0 words.now }
+    requires some { 0 < length bytes.now }
 {
     look(&mut Flat { words }, 0, bytes)
 }
 
 /// A trie of leaves, each of them a run of its own.
-fn make_trie<L: Leaves>(alloc: Global, leaves: &L) -> Result<Vec<u64>, Fault> {
+fn make_trie<L: Leaves>(alloc: Global, leaves: &L) -> Result<Vec<u64>, Fault>
+    ensures { IfOk result (λ made. IsTrieAt (L.leaves leaves.now) 0 made.items) }
+{
     let mut runs = Vec::new(alloc);
     for at in 0..leaves.count() {
         let leaf = leaves.leaf(at);
@@ -86,11 +90,11 @@ fn bytes_lead_to_words(rt: HostRuntime) -> Result<(), Fail> {
         panic!(&rt; "a trie was expected");
     };
     assert!(&rt; words.len() == 512);
-    assert!(&rt; find(words.as_slice(), &[0x41, 0x42]) == Walk::Word { word: 7, used: 1 });
-    assert!(&rt; find(words.as_slice(), &[0x81, 0xfe]) == Walk::Word { word: 8, used: 2 });
-    assert!(&rt; find(words.as_slice(), &[0x81]) == Walk::Inside);
-    assert!(&rt; find(words.as_slice(), &[0x81, 0xfd]) == Walk::Outside);
-    assert!(&rt; find(words.as_slice(), &[0x42]) == Walk::Outside);
+    assert!(&rt; find(&rows, words.as_slice(), &[0x41, 0x42]) == Walk::Word { word: 7, used: 1 });
+    assert!(&rt; find(&rows, words.as_slice(), &[0x81, 0xfe]) == Walk::Word { word: 8, used: 2 });
+    assert!(&rt; find(&rows, words.as_slice(), &[0x81]) == Walk::Inside);
+    assert!(&rt; find(&rows, words.as_slice(), &[0x81, 0xfd]) == Walk::Outside);
+    assert!(&rt; find(&rows, words.as_slice(), &[0x42]) == Walk::Outside);
     Ok(())
 }
 

@@ -4,6 +4,7 @@ ghost use Rattle.std.specs.Prelude.{◌≡◌, ◌<◌, List, length};
 ghost use Rattle.trie.specs.Leaf.{Leaf};
 ghost use Rattle.trie.specs.Look.{look_of};
 ghost use Rattle.trie.specs.Trie.{IsTrieAt};
+ghost use Rattle.trie.specs.Pages.{IsPageIn};
 ghost use Rattle.trie.specs.Words.{page_in, walk_words};
 
 use crate::words::{HIT, REF, Words};
@@ -34,7 +35,8 @@ pub fn page_in(word: u64) -> Option<u32>
 /// Walks along bytes from a page.
 #[inline(always)]
 fn along<W: Words>(words: &mut W, first: u32, bytes: &[u8]) -> Walk
-    requires { W.ready words.old }
+    requires ready { W.ready words.old }
+    requires page { IsPageIn (W.words words.old) first }
     ensures value { result ≡ walk_words (W.words words.old) first 0 bytes.now }
     ensures same { W.words words.new ≡ W.words words.old }
     ensures ready { W.ready words.new }
@@ -62,6 +64,7 @@ fn along<W: Words>(words: &mut W, first: u32, bytes: &[u8]) -> Walk
 #[inline(always)]
 pub fn look<W: Words>(words: &mut W, first: u32, bytes: &[u8]) -> Walk
     requires ready { W.ready words.old }
+    requires trie { (leaves : List Leaf) × IsTrieAt leaves first (W.words words.old) }
     requires some { 0 < length bytes.now }
     // Whichever trie stands there.
     ensures value { (leaves : List Leaf) → IsTrieAt leaves first (W.words words.old) →

@@ -8,7 +8,7 @@ pub const REF: u64 = 1 << 61;
 
 /// Words in pages of 256.
 pub trait Words {
-    ghost use Rattle.std.specs.Prelude.{◌≡◌, ℕ, List};
+    ghost use Rattle.std.specs.Prelude.{◌≡◌, ℕ, ◌+◌, ◌*◌, ◌<◌, List, length};
     ghost use Rattle.trie.specs.Words.{word_in};
 
     /// All words, page after page.
@@ -20,9 +20,10 @@ pub trait Words {
     /// What a reading keeps of the value itself, of before and after.
     ghost kept: { Self → Self → Type 0 };
 
-    /// The word at a place of a page; 0 where there is none.
+    /// The word at a place of a page.
     fn word(&mut self, page: u32, place: u8) -> u64
-        requires { ready self.old }
+        requires ready { ready self.old }
+        requires within { 256 * page + place < length (words self.old) }
         ensures value { result ≡ word_in (words self.old) page place }
         ensures same { words self.new ≡ words self.old }
         ensures ready { ready self.new }
@@ -54,11 +55,6 @@ impl<'a> Words for Flat<'a> {
 
     #[inline(always)]
     fn word(&mut self, page: u32, place: u8) -> u64 {
-        let at = page as usize * 256 + place as usize;
-        if at < self.words.len() {
-            self.words[at]
-        } else {
-            0
-        }
+        self.words[page as usize * 256 + place as usize]
     }
 }

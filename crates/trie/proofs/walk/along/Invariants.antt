@@ -1,4 +1,5 @@
 use Rattle.std.proofs.Common.{◌≡◌, drop}
+use Rattle.trie.specs.Pages.{IsPageIn}
 use Rattle.trie.specs.Words.{walk_words}
 use Rattle.trie.proofs.walk.along.Given as goal
 
@@ -10,6 +11,7 @@ invariant-loop-byte g l =
       rest : walk_words (words l.words) l.page l.used (drop l.byte-index l.bytes) ≡ walk_words
           (words l.fn.words) l.fn.first 0 l.bytes;
       same : words l.words ≡ words l.fn.words;
+      page : IsPageIn (words l.words) l.page;
       ready : g.W.Words.ready l.words;
       kept : g.W.Words.kept l.fn.words l.words;
     }
