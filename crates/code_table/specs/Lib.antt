@@ -1,5 +1,6 @@
 pub mod Looks
 pub mod Last
+pub mod Double
 pub mod Next
 pub mod Images
 pub mod Faults

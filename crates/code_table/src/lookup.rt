@@ -20,6 +20,7 @@ pub enum Look {
 pub trait Lookup {
     ghost use Rattle.std.specs.Prelude.{◌≡◌, ℕ, ◌<◌, length};
     ghost use Rattle.code_pairs.specs.Tables.{Tables, table_at, code_of, IsWellFormed};
+    ghost use Rattle.code_table.specs.Double.{all_double};
     ghost use Rattle.code_table.specs.Last.{last_point};
     ghost use Rattle.code_table.specs.Looks.{look_of};
 
@@ -55,6 +56,12 @@ pub trait Lookup {
     fn last(&self, table: u32) -> u32
         requires within { table < length (tables self.now) }
         ensures value { result ≡ last_point (table_at (tables self.now) table) };
+
+    /// Whether each code of the table of that number is two bytes, each from 21 to 7E hex. A writer of
+    /// such codes leaves out the tests of a single one.
+    fn is_double(&self, table: u32) -> bool
+        requires within { table < length (tables self.now) }
+        ensures value { result ≡ all_double (table_at (tables self.now) table) };
 
     // Each table is well formed; past the last one stands the empty table.
     ghost well_formed: { (x : Self) (k : ℕ) → ready x → IsWellFormed (table_at (tables x) k) };

@@ -44,4 +44,9 @@ impl Lookup for Owned {
     fn last(&self, table: u32) -> u32 {
         self.tables[table as usize].last()
     }
+
+    #[inline(always)]
+    fn is_double(&self, table: u32) -> bool {
+        self.tables[table as usize].is_double()
+    }
 }

@@ -2,12 +2,13 @@
 
 ghost use Rattle.std.specs.Prelude.{◌≡◌, ◌<◌, IfOk, IfErr};
 ghost use Rattle.code_pairs.specs.Tables.{HasPoints, IsWellFormed, code_of};
+ghost use Rattle.code_table.specs.Double.{all_double};
 ghost use Rattle.code_table.specs.Faults.{IsTableFault};
 ghost use Rattle.code_table.specs.Images.{root_of, page_count, image_word};
 ghost use Rattle.code_table.specs.Last.{last_point};
 ghost use Rattle.code_table.specs.Looks.{look_of};
 
-use crate::build::{code_pages, see_forms, with_points};
+use crate::build::{are_double, code_pages, see_forms, with_points};
 use crate::fault::TableFault;
 use crate::image::{Layout, bytes_in, code_in};
 use crate::lookup::Look;
@@ -20,18 +21,20 @@ use std::snapshot::Snapshot;
 use trie::Flat;
 
 /// A table of codes. A clause sees the list of its pairs; the value has the words of its page image
-/// and the greatest point.
+/// and what is told of all pairs at once.
 #[derive(Drop)]
 pub struct CodeTable {
     words: Vec<u64>,
     layout: Layout,
     last: u32,
+    double: bool,
     pairs: Snapshot<Vec<Pair>>,
 }
 
 impl Model for CodeTable {
     ghost use Rattle.std.specs.Prelude.{◌≡◌};
     ghost use Rattle.code_pairs.specs.Tables.{Table};
+    ghost use Rattle.code_table.specs.Double.{all_double};
     ghost use Rattle.code_table.specs.Images.{IsImageOf};
     ghost use Rattle.code_table.specs.Last.{last_point};
 
@@ -40,7 +43,7 @@ impl Model for CodeTable {
     ghost view = { λ t. t.pairs.value.items };
 
     ghost invariant = { λ t. IsImageOf t.pairs.value.items t.layout.root t.layout.pages t.words.items
-        × (t.last ≡ last_point t.pairs.value.items) };
+        × (t.last ≡ last_point t.pairs.value.items) × (t.double ≡ all_double t.pairs.value.items) };
 }
 
 impl CodeTable {
@@ -64,6 +67,7 @@ impl CodeTable {
             words,
             layout: Layout { root, pages },
             last,
+            double: are_double(list),
             pairs: Snapshot::of(&map.pairs),
         })
     }
@@ -96,6 +100,14 @@ impl CodeTable {
         ensures { result ≡ last_point self.now }
     {
         self.last
+    }
+
+    /// Whether each code is two bytes, each from 21 to 7E hex.
+    #[inline(always)]
+    pub fn is_double(&self) -> bool
+        ensures { result ≡ all_double self.now }
+    {
+        self.double
     }
 
     /// How many pages the page image has.

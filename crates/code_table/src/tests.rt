@@ -128,6 +128,27 @@ fn the_last_point_is_the_greatest(rt: HostRuntime) -> Result<(), Fail> {
 }
 
 #[test]
+fn a_table_is_double_where_each_code_is(rt: HostRuntime) -> Result<(), Fail> {
+    let alloc = rt.alloc();
+    let pairs = vec![in alloc;
+        make_pair(0x3042, &[0x24, 0x22]),
+        make_pair(0x4E9C, &[0x30, 0x21]),
+    ]?;
+    let double = CodeTable::build(alloc, &Charmap { pairs })?;
+    let pairs = vec![in alloc;
+        make_pair(0x3042, &[0x24, 0x22]),
+        make_pair(0x4E9C, &[0x30, 0xA1]),
+    ]?;
+    let other = CodeTable::build(alloc, &Charmap { pairs })?;
+    let owned = Owned {
+        tables: vec![in alloc; double, other]?,
+    };
+    assert!(&rt; owned.is_double(0));
+    assert!(&rt; !owned.is_double(1));
+    Ok(())
+}
+
+#[test]
 fn an_overlap_is_told(rt: HostRuntime) -> Result<(), Fail> {
     let alloc = rt.alloc();
     let pairs = vec![in alloc;

@@ -1,5 +1,5 @@
 -- Bytes put behind an escape, and what they are of a point.
-use Rattle.std.proofs.Common.{◌≡◌, ◌+◌, ◌≤◌, ℕ, false, List, [], ◌∷◌, ◌++◌, length, take, drop, set, refl, sym, ap, ◌∙◌, subst, arith, append_assoc, length-append, length-set}
+use Rattle.std.proofs.Common.{◌≡◌, ◌+◌, ◌≤◌, ℕ, Bool, true, false, List, [], ◌∷◌, ◌++◌, length, take, drop, set, Option, Some, refl, sym, ap, ◌∙◌, subst, arith, append_assoc, length-append, length-set}
 use Rattle.std.proofs.lemmas.List.{drop-drop, drop-set-lt}
 use Rattle.std.proofs.lemmas.Grind.{take-set_at}
 use denote.Enum.Bare.{sameb}
@@ -7,6 +7,9 @@ use Rattle.step_unicode.specs.contracts.set.State.{the_type}
 use Rattle.step_unicode.specs.declared.set.State.{State}
 use Rattle.step_unicode.specs.declared.set.State.TheVariants.{Plain, Little, Big, Roman, Kanji}
 use Rattle.step_unicode.specs.declared.wrote.Wrote.TheVariants.{Bytes}
+use Rattle.code_table.specs.Double.{is_double}
+use Rattle.step_iso2022jp.specs.Codes.{is_kanji_code}
+use Rattle.step_iso2022jp.specs.Sets.{in_class}
 use Rattle.step_iso2022jp.specs.Puts.{IsPut}
 use Rattle.step_iso2022jp.specs.Shifts.{IsShiftState, escape, shift}
 
@@ -75,3 +78,17 @@ shifted_two s c old mid at b d is shifts within same front rest = (
   where
     more : at + 3 + 2 ≡ at + 5
     more = omega arith
+
+-- a code of two graphic bytes counts in the Kanji set
+pub double_kanji : (code : List ℕ) → is_double code ≡ is_kanji_code code
+double_kanji [] = refl
+double_kanji (a ∷ []) = refl
+double_kanji (a ∷ b ∷ []) = refl
+double_kanji (a ∷ b ∷ c ∷ rest) = refl
+
+-- how a point is written whose code counts
+pub in_class_told : (class : State) (counts : List ℕ → Bool) (code : List ℕ) (a b : ℕ) (o : Option (List ℕ)) →
+    o ≡ Some code → counts code ≡ true → code ≡ a ∷ b ∷ [] →
+    in_class class counts o ≡ Some (record { class = class; code = a ∷ b ∷ [] })
+in_class_told class counts code a b o told t is =
+    ap (in_class class counts) told ∙ rw t (ap (λ c. Some (record { class = class; code = c })) is)

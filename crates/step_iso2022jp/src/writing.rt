@@ -1,6 +1,6 @@
 //! One point written.
 
-ghost use Rattle.std.specs.Prelude.{◌≡◌, ◌<◌, ◌≤◌, [], ◌∷◌, length, MatchOption};
+ghost use Rattle.std.specs.Prelude.{◌≡◌, ◌<◌, ◌≤◌, [], ◌∷◌, length, IsTrue, MatchOption};
 ghost use Rattle.code_pairs.specs.Tables.{table_at, code_of};
 ghost use Rattle.step_unicode.specs.declared.set.State.TheVariants.{Roman, Kanji};
 ghost use Rattle.step_unicode.specs.Answers.{IsWrote, IsWritten};
@@ -10,6 +10,7 @@ ghost use Rattle.step_iso2022jp.specs.Sets.{IsInJp, in_class, jp_spelling};
 
 use crate::putting::{put_one, put_two};
 use crate::reading::is_graphic;
+use code_pairs::Code;
 use code_table::Lookup;
 use step_unicode::{Small, State, Wrote};
 
@@ -34,7 +35,26 @@ fn roman_code<T: Lookup>(tables: &mut T, roman: u32, point: u32) -> Option<u8>
     }
 }
 
-/// The two bytes of a point in the Kanji set.
+/// Whether a code counts in the Kanji set.
+#[inline(always)]
+fn is_kanji(code: &Code) -> bool
+    ensures { result ≡ is_kanji_code code.now }
+{
+    code.len() == 2 && is_graphic(code.byte(0)) && is_graphic(code.byte(1))
+}
+
+/// The bytes of a code of two.
+#[inline(always)]
+fn two_bytes(code: &Code) -> (u8, u8)
+    requires { IsTrue (is_kanji_code code.now) }
+    ensures { code.now ≡ result.0 ∷ result.1 ∷ [] }
+{
+    let value = code.value();
+    let _count = code.len();
+    ((value / 256 % 256) as u8, (value % 256) as u8)
+}
+
+/// The two bytes of a point in the Kanji set. Where all codes of the table count, none is tested.
 #[inline(always)]
 fn kanji_code<T: Lookup>(tables: &mut T, kanji: u32, point: u32) -> Option<(u8, u8)>
     requires ready { T.ready tables.old }
@@ -46,10 +66,9 @@ fn kanji_code<T: Lookup>(tables: &mut T, kanji: u32, point: u32) -> Option<(u8, 
     ensures ready { T.ready tables.new }
     ensures kept { T.kept tables.old tables.new }
 {
+    let all = tables.is_double(kanji);
     match tables.bytes(kanji, point) {
-        Some(code) if code.len() == 2 && is_graphic(code.byte(0)) && is_graphic(code.byte(1)) => {
-            Some((code.byte(0), code.byte(1)))
-        }
+        Some(code) if all || is_kanji(&code) => Some(two_bytes(&code)),
         _ => None,
     }
 }

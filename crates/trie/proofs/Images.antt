@@ -8,7 +8,7 @@ use Rattle.trie.specs.Fronts.{AreShort, word_at, pages, children}
 use Rattle.trie.specs.Look.{look_of}
 use Rattle.trie.specs.Stages.{Holds}
 use Rattle.trie.specs.Trie.{cell, cell_word, place_of, trie, IsTrieAt}
-use Rattle.trie.specs.Pages.{HasPages, IsPageIn}
+use Rattle.trie.specs.Pages.{IsPageIn}
 use Rattle.trie.specs.Words.{walk_words, page_in, word_in}
 use Rattle.trie.specs.Leaf.{Leaf}
 use Rattle.trie.proofs.Places.{some_none, place_there}
@@ -125,14 +125,19 @@ refers first n None None next within few e = absurd (some_none (sym e))
 pub trie_pages : (leaves : List Leaf) (first : ℕ) (ws : List ℕ) → IsTrieAt leaves first ws → IsPageIn ws first
 trie_pages leaves first ws at =
     let h = trie_holds leaves first ws at in
-    let ps = pages leaves in
-    (first, length ps, record {
-      within = at.within;
-      closed = λ page b next low high small e.
-          let k = page - first in
-          let place : first + k ≡ page = omega (arith, low) in
-          let q = get_or ps k [] ++ b ∷ [] in
-          refers first (length ps) (word_at leaves q) (place_of q ps) next
-          (λ j is. (place_there q ps j is).within) h.few
-          (ap page_in (sym (h.words k b (omega (arith, high)) small) ∙ ap (λ x. word_in ws x b) place) ∙ e);
-    }, omega arith, omega (arith, some_page leaves))
+    let ps = pages leaves in (
+      first,
+      length ps,
+      record {
+        within = at.within;
+        closed = λ page b next low high small e.
+            let k = page - first in
+            let place : first + k ≡ page = omega (arith, low) in
+            let q = get_or ps k [] ++ b ∷ [] in
+            refers first (length ps) (word_at leaves q) (place_of q ps) next
+            (λ j is. (place_there q ps j is).within) h.few
+            (ap page_in (sym (h.words k b (omega (arith, high)) small) ∙ ap (λ x. word_in ws x b) place) ∙ e);
+      },
+      omega arith,
+      omega (arith, some_page leaves),
+    )

@@ -1,6 +1,6 @@
-use Rattle.std.proofs.Common.{rules, ◌≡◌, ◌+◌, ◌≤◌, ◌<◌, ◌∙◌, ℕ, Some, arith, sym, ap, subst, get_or}
-use Rattle.trie.specs.Pages.{HasPages, IsPageIn}
-use Rattle.trie.specs.Words.{page_in, word_in, walk_words}
+use Rattle.std.proofs.Common.{rules, ◌≡◌, ◌∙◌, Some, arith, sym, ap, subst, get_or}
+use Rattle.trie.specs.Pages.{IsPageIn}
+use Rattle.trie.specs.Words.{page_in, word_in}
 use Rattle.trie.proofs.Walks.{walk_more}
 use Rattle.trie.proofs.walk.along.Goals as goal
 
