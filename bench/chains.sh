@@ -6,33 +6,21 @@
 #
 # PROGRAM is crates/chain_bench/out/chain_bench where none is given. RUNS=N measures each row N times
 # (5 where it isn't set); a figure is the best of them. A row is skipped where a peer is missing.
-set -u
-here=$(cd "$(dirname "$0")/.." && pwd) || exit 2
-program=${1:-$here/crates/chain_bench/out/chain_bench}
+. "$(dirname "$0")/setup.sh"
+need python3 iconv
+built chain_bench "$@"
+scratch
 
-for peer in python3 iconv; do
-    if ! command -v "$peer" >/dev/null 2>&1; then
-        echo "skipped: $peer is missing"
-        exit 0
-    fi
-done
-if [ ! -x "$program" ]; then
-    echo "there is no program at $program" >&2
-    exit 2
-fi
-folder=$(mktemp -d) || exit 2
-trap 'rm -rf "$folder"' EXIT
-trap 'exit 2' HUP INT TERM
-
-python3 - "$program" "$folder" "${RUNS:-5}" <<'PY'
-import ctypes
+python3 - "$program" "$folder" "${RUNS:-5}" "$here/bench" <<'PY'
 import os
-import subprocess
 import sys
-import time
 
 program, folder, runs = sys.argv[1], sys.argv[2], int(sys.argv[3])
-SIZE, PIECE, SCRATCH, TIMES = 16 * 2**20, 2**16, 2**17, 8
+sys.dont_write_bytecode = True
+sys.path.insert(0, sys.argv[4])
+from peers import library, passage, used
+
+SIZE, TIMES = 16 * 2**20, 8
 words = {
     "ascii": "the of and to in is that it was for on are as with they at be this have from or one had by",
     "latin": "déjà élève être naïf garçon où façon über Straße schön größer früh Mädchen niño mañana the",
@@ -44,24 +32,9 @@ rows = [("UTF-8", "UTF-16LE", k) for k in words] + [("UTF-16LE", "UTF-8", k) for
 rows += [("UTF-8", "UCS-4", k) for k in ("ascii", "latin", "japanese")]
 rows += [("UTF-8", "UTF-8", "ascii"), ("ASCII", "UTF-8", "ascii")]
 
-libc = ctypes.CDLL(None)
-libc.iconv_open.restype = ctypes.c_void_p
-libc.iconv.restype = ctypes.c_size_t
-libc.iconv.argtypes = [ctypes.c_void_p] + [ctypes.c_void_p] * 4
-libc.iconv_close.argtypes = [ctypes.c_void_p]
-
 
 def write_text(kind, encoding):
-    # words drawn by a fixed rule, so that each run measures the same bytes
-    choices, state, made = words[kind].split(), 1, bytearray()
-    lines = []
-    for _ in range(1200):
-        line = []
-        for _ in range(10):
-            state = (state * 1103515245 + 12345) % 2**31
-            line.append(choices[(state >> 16) % len(choices)])
-        lines.append((" ".join(line) + "\n").encode(encoding))
-    whole = b"".join(lines)
+    whole = passage(words[kind]).encode(encoding)
     made = whole * (SIZE // len(whole))
     name = f"{folder}/{kind}.{encoding}"
     with open(name, "wb") as out:
@@ -69,38 +42,9 @@ def write_text(kind, encoding):
     return name, made
 
 
-def used(command):
-    # the processor time of a child
-    child = subprocess.Popen(command, stdout=subprocess.DEVNULL)
-    _, status, usage = os.wait4(child.pid, 0)
-    child.returncode = status
-    return usage.ru_utime + usage.ru_stime if status == 0 else None
-
-
 def ours(source, target, name):
     many, one = (used([program, source, target, name, str(n)]) for n in (TIMES + 1, 1))
     return (many - one) / TIMES if many is not None and one is not None else None
-
-
-def library(source, target, made):
-    # iconv(3) in pieces, into a scratch that is used again
-    handle = libc.iconv_open(target.encode(), source.encode())
-    scratch = ctypes.create_string_buffer(SCRATCH)
-    base = ctypes.cast(ctypes.c_char_p(made), ctypes.c_void_p).value
-    place, left, out, room = ctypes.c_void_p(), ctypes.c_size_t(), ctypes.c_void_p(), ctypes.c_size_t()
-    arguments = [handle] + [ctypes.byref(c) for c in (place, left, out, room)]
-    start, at = time.process_time(), 0
-    while at < len(made):
-        piece = min(PIECE, len(made) - at)
-        place.value, left.value = base + at, piece
-        out.value, room.value = ctypes.addressof(scratch), SCRATCH
-        libc.iconv(*arguments)
-        if left.value == piece:
-            return None
-        at += piece - left.value
-    took = time.process_time() - start
-    libc.iconv_close(handle)
-    return took
 
 
 def tool(source, target, name):

@@ -11,29 +11,15 @@
 # that of its start, of its reading and of its writing to /dev/null too.
 # A text is made in UTF-8 from a few words, and iconv(1) makes it in the other set. The two tables of
 # ISO-2022-JP are JIS_C6220-1969-RO and what EUC-JP has of JIS X 0208.
-set -u
-here=$(cd "$(dirname "$0")/.." && pwd) || exit 2
-program=${1:-$here/crates/charmap_bench/out/charmap_bench}
+. "$(dirname "$0")/setup.sh"
 charmaps=/usr/share/i18n/charmaps
-
-for peer in python3 iconv gzip; do
-    if ! command -v "$peer" >/dev/null 2>&1; then
-        echo "skipped: $peer is missing"
-        exit 0
-    fi
-done
+need python3 iconv gzip
 if [ ! -f "$charmaps/EUC-JP.gz" ]; then
     echo "skipped: there are no charmaps in $charmaps (package locales)"
     exit 0
 fi
-if [ ! -x "$program" ]; then
-    echo "there is no program at $program" >&2
-    exit 2
-fi
-program=$(cd "$(dirname "$program")" && pwd)/$(basename "$program")
-folder=$(mktemp -d) || exit 2
-trap 'rm -rf "$folder"' EXIT
-trap 'exit 2' HUP INT TERM
+built charmap_bench "$@"
+scratch
 
 mkdir "$folder/maps" || exit 2
 for packed in "$charmaps"/*.gz; do
@@ -41,40 +27,40 @@ for packed in "$charmaps"/*.gz; do
 done
 echo "load: $(cut -d ' ' -f 1-3 /proc/loadavg)"
 (cd "$folder/maps" && "$program" check *) | grep -v ' ok [0-9]* pairs [0-9]* pages$'
+# As many pairs as a charmap may have, which a text of 16 MiB can hold as ranges alone: one run in each of
+# five programs, since a program reads a charmap once.
+cat >"$folder/ranges" <<'MAP'
+<escape_char> /
+CHARMAP
+<U00010000>..<U0010FFFF> /x00/x00/x00/x00
+<U00010000>..<U0010FFFF> /x10/x00/x00/x00
+END CHARMAP
+MAP
 echo "EUC-JP: $("$program" time "$folder/maps/EUC-JP" 20 | tr '\n' ' ')"
+for _ in 1 2 3 4 5; do
+    echo "2,097,152 pairs in two ranges: $("$program" time "$folder/ranges" 1 | tr '\n' ' ')"
+done
 
-python3 - "$program" "$folder" "${RUNS:-3}" <<'PY'
-import ctypes
+python3 - "$program" "$folder" "${RUNS:-3}" "$here/bench" <<'PY'
 import os
 import re
 import subprocess
 import sys
-import time
 
 program, folder, runs = sys.argv[1], sys.argv[2], int(sys.argv[3])
-SIZE, PIECE, SCRATCH, TIMES = 16 * 2**20, 2**16, 2**17, 5
+sys.dont_write_bytecode = True
+sys.path.insert(0, sys.argv[4])
+from peers import library, passage, used
+
+SIZE, TIMES = 16 * 2**20, 5
 words = {
     "japanese": "日本語 文字 コード 変換 と は を に が で ひらがな カタカナ 漢字 東京 大阪 今日 明日 世界 、 。",
     "chinese": "中文 字符 编码 转换 的 是 在 了 和 有 我们 世界 北京 上海 今天 明天 汉字 语言 ， 。",
 }
 
-libc = ctypes.CDLL(None)
-libc.iconv_open.restype = ctypes.c_void_p
-libc.iconv.restype = ctypes.c_size_t
-libc.iconv.argtypes = [ctypes.c_void_p] + [ctypes.c_void_p] * 4
-libc.iconv_close.argtypes = [ctypes.c_void_p]
-
 
 def write_text(kind):
-    # words drawn by a fixed rule, so that each run measures the same bytes
-    choices, state, lines = words[kind].split(), 1, []
-    for _ in range(1200):
-        line = []
-        for _ in range(15):
-            state = (state * 1103515245 + 12345) % 2**31
-            line.append(choices[(state >> 16) % len(choices)])
-        lines.append("".join(line) + "\n")
-    whole = "".join(lines).encode()
+    whole = passage(words[kind], 15, "").encode()
     name = f"{folder}/{kind}"
     with open(name, "wb") as out:
         out.write(whole * (SIZE // len(whole)))
@@ -103,32 +89,8 @@ def ours(command, way, name):
     return int(found[2]), int(found[3])
 
 
-def library(source, target, made):
-    handle = libc.iconv_open(target.encode(), source.encode())
-    scratch = ctypes.create_string_buffer(SCRATCH)
-    base = ctypes.cast(ctypes.c_char_p(made), ctypes.c_void_p).value
-    place, left, out, room = ctypes.c_void_p(), ctypes.c_size_t(), ctypes.c_void_p(), ctypes.c_size_t()
-    arguments = [handle] + [ctypes.byref(c) for c in (place, left, out, room)]
-    start, at = time.process_time(), 0
-    while at < len(made):
-        piece = min(PIECE, len(made) - at)
-        place.value, left.value = base + at, piece
-        out.value, room.value = ctypes.addressof(scratch), SCRATCH
-        libc.iconv(*arguments)
-        if left.value == piece:
-            return 0
-        at += piece - left.value
-    took = time.process_time() - start
-    libc.iconv_close(handle)
-    return len(made) / took / 1e6
-
-
-def tool(source, target, name):
-    with open(os.devnull, "w") as nowhere:
-        child = subprocess.Popen(["iconv", "-f", source, "-t", target, name], stdout=nowhere)
-        _, status, usage = os.wait4(child.pid, 0)
-    child.returncode = status
-    return os.path.getsize(name) / (usage.ru_utime + usage.ru_stime) / 1e6 if status == 0 else 0
+def rate(size, took):
+    return size / took / 1e6 if took else 0
 
 
 def row(label, command, way, source, target, name, size):
@@ -136,12 +98,12 @@ def row(label, command, way, source, target, name, size):
         made = text.read()
     mine, peers, calls = 0, 0, 0
     for _ in range(runs):
-        out, rate = ours(command, way, name)
+        out, speed = ours(command, way, name)
         if out is None:
-            print(f"{label:<26}{rate}", flush=True)
+            print(f"{label:<26}{speed}", flush=True)
             return
-        mine, calls, peers = max(mine, rate), max(calls, library(source, target, made)), max(
-            peers, tool(source, target, name))
+        mine, calls, peers = max(mine, speed), max(calls, rate(len(made), library(source, target, made))), max(
+            peers, rate(len(made), used(["iconv", "-f", source, "-t", target, name])))
     same = "" if out == size else f"  {out} bytes, not {size}"
     print(f"{label:<26}{mine:>8.0f}{peers:>10.0f}{calls:>10.0f}{mine / peers:>10.2f}{mine / calls:>10.2f}{same}",
           flush=True)
@@ -159,4 +121,12 @@ for charset, command, kind in jobs:
             continue
     row(f"{charset} -> UTF-8", command, "FROM", charset, "UTF-8", coded, os.path.getsize(plain))
     row(f"UTF-8 -> {charset}", command, "TO", "UTF-8", charset, plain, os.path.getsize(coded))
+
+# Kanji alone: what the set costs beside a set that has the same codes and no state.
+roman, kanji, alone = f"{folder}/maps/JIS_C6220-1969-RO", write_kanji(), f"{folder}/alone"
+with open(write_text("japanese"), encoding="utf-8") as text, open(alone, "w", encoding="utf-8") as out:
+    out.write(text.read().replace("\n", ""))
+for _ in range(runs):
+    table, jp = (ours(command, "TO", alone)[1] for command in (["convert", kanji], ["jp", roman, kanji]))
+    print(f"Kanji alone: its table {table} MB/s, ISO-2022-JP {jp} MB/s", flush=True)
 PY

@@ -6,10 +6,9 @@
 # PROGRAM is the built conf_bench: `rt ci conf_bench` leaves it in crates/conf_bench/out. The files of
 # the system are those of the GNU C Library's package; where they are absent, they are passed over
 # with a word.
-cd "$(dirname "$0")/.." || exit 1
-program=${1:-crates/conf_bench/out/conf_bench}
+. "$(dirname "$0")/setup.sh"
+built conf_bench "$@"
 system=${GCONV_DIR:-/usr/lib/x86_64-linux-gnu/gconv}
-[ -x "$program" ] || { echo "no program $program: run rt ci conf_bench" >&2; exit 1; }
 
 # Runs the program with no search and with many, and prints both times and the time of a search.
 timed() {

@@ -8,33 +8,22 @@
 # (5 where it isn't set); a figure is the median. A peer that is missing is skipped with a word, and
 # so is a pair that the program refuses (status 2). The status is 1 exactly where some bytes differ or
 # the program fails otherwise.
-set -u
-here=$(cd "$(dirname "$0")/.." && pwd) || exit 2
-program=${1:-$here/crates/iconv_batch/out/iconv_batch}
-
-for peer in python3 iconv; do
-    if ! command -v "$peer" >/dev/null 2>&1; then
-        echo "skipped: $peer is missing"
-        exit 0
-    fi
-done
-if [ ! -x "$program" ]; then
-    echo "there is no program at $program" >&2
-    exit 2
-fi
-program=$(cd "$(dirname "$program")" && pwd)/$(basename "$program")
-
-folder=$(mktemp -d) || exit 2
-trap 'rm -rf "$folder"' EXIT
-trap 'exit 2' HUP INT TERM
+. "$(dirname "$0")/setup.sh"
+need python3 iconv
+built iconv_batch "$@"
+scratch
 
 make_texts() {
-    python3 - "$folder" <<'PY'
+    python3 - "$folder" "$here/bench" <<'PY'
 # Each text in each encoding that is read, of at most 1 and 16 MiB. Words are drawn by a fixed rule,
 # so that each run measures the same bytes.
 import sys
 
 folder = sys.argv[1]
+sys.dont_write_bytecode = True
+sys.path.insert(0, sys.argv[2])
+from peers import passage
+
 words = {
     "ascii": "the of and to in is that it was for on are as with they at be this have from or one had by "
              "word but not what all were we when your can said there use an each which she do how their",
@@ -44,18 +33,6 @@ words = {
                 "こんにちは ありがとう プログラム ファイル 入力 出力 検査 証明",
     "emoji": "😀 😁 😂 🤣 😃 🎉 🚀 🌍 🍣 🐈 🦊 🧪 🔧 📁 💾 🕰 🎼 🀄 🂡 𝄞",
 }
-
-
-def passage(choices):
-    # some 64 KiB of lines of ten words
-    state, lines = 1, []
-    for _ in range(1200):
-        line = []
-        for _ in range(10):
-            state = (state * 1103515245 + 12345) % 2**31
-            line.append(choices[(state >> 16) % len(choices)])
-        lines.append(" ".join(line) + "\n")
-    return "".join(lines)
 
 
 def write(name, text, encoding, size):
@@ -71,7 +48,7 @@ def write(name, text, encoding, size):
 
 
 for kind, chosen in words.items():
-    text = passage(chosen.split())
+    text = passage(chosen)
     for mib in (1, 16):
         for label, encoding in (("UTF-8", "utf-8"), ("UTF-16LE", "utf-16-le")):
             write(f"{kind}.{label}.{mib}", text, encoding, mib * 2**20)
