@@ -10,16 +10,8 @@ ghost use Rattle.step_iso2022jp.specs.Shifts.{IsShiftState};
 ghost use Rattle.step_iso2022jp.specs.Sets.{IsEscape, IsJpUnit};
 
 use crate::whole::{leads, point_of_code};
-use code_table::Lookup;
+use code_table::{Lookup, is_graphic};
 use step_unicode::{State, Unit};
-
-/// Whether a byte has its meaning from the state.
-#[inline(always)]
-pub fn is_graphic(byte: u8) -> bool
-    ensures { result ≡ is_graphic byte }
-{
-    0x21 <= byte && byte <= 0x7E
-}
 
 /// The state that an escape leads to; `None` exactly where the bytes are no escape.
 fn escaped(kind: u8, last: u8) -> Option<State>

@@ -9,9 +9,8 @@ ghost use Rattle.step_iso2022jp.specs.Shifts.{IsShiftState, return_of};
 ghost use Rattle.step_iso2022jp.specs.Sets.{IsInJp, in_class, jp_spelling};
 
 use crate::putting::{put_one, put_two};
-use crate::reading::is_graphic;
 use code_pairs::Code;
-use code_table::Lookup;
+use code_table::{Lookup, is_double, is_graphic};
 use step_unicode::{Small, State, Wrote};
 
 /// The byte of a point in the Roman set. A point above all of the table's costs no look-up.
@@ -33,14 +32,6 @@ fn roman_code<T: Lookup>(tables: &mut T, roman: u32, point: u32) -> Option<u8>
         Some(code) if code.len() == 1 && is_graphic(code.byte(0)) => Some(code.byte(0)),
         _ => None,
     }
-}
-
-/// Whether a code counts in the Kanji set.
-#[inline(always)]
-fn is_kanji(code: &Code) -> bool
-    ensures { result ≡ is_kanji_code code.now }
-{
-    code.len() == 2 && is_graphic(code.byte(0)) && is_graphic(code.byte(1))
 }
 
 /// The bytes of a code of two.
@@ -68,7 +59,7 @@ fn kanji_code<T: Lookup>(tables: &mut T, kanji: u32, point: u32) -> Option<(u8, 
 {
     let all = tables.is_double(kanji);
     match tables.bytes(kanji, point) {
-        Some(code) if all || is_kanji(&code) => Some(two_bytes(&code)),
+        Some(code) if all || is_double(&code) => Some(two_bytes(&code)),
         _ => None,
     }
 }
