@@ -151,13 +151,11 @@ pub fn read_unit<T: Lookup>(
         return match state {
             State::Kanji => read_kanji(tables, kanji, input),
             State::Roman => read_roman(tables, roman, input),
-            State::Plain => Unit::Got {
+            _ => Unit::Got {
                 point: Some(first as u32),
                 used: 1,
                 state,
             },
-            State::Little => unreachable!(),
-            State::Big => unreachable!(),
         };
     }
     if first == 0x1B {
