@@ -126,7 +126,13 @@ for charset, command, kind in jobs:
 roman, kanji, alone = f"{folder}/maps/JIS_C6220-1969-RO", write_kanji(), f"{folder}/alone"
 with open(write_text("japanese"), encoding="utf-8") as text, open(alone, "w", encoding="utf-8") as out:
     out.write(text.read().replace("\n", ""))
+made = subprocess.run(["iconv", "-f", "UTF-8", "-t", "ISO-2022-JP", alone], capture_output=True).stdout
+for name, text in ((f"{alone}.jp", made), (f"{alone}.table", made[3:-3])):
+    with open(name, "wb") as out:
+        out.write(text)
 for _ in range(runs):
-    table, jp = (ours(command, "TO", alone)[1] for command in (["convert", kanji], ["jp", roman, kanji]))
-    print(f"Kanji alone: its table {table} MB/s, ISO-2022-JP {jp} MB/s", flush=True)
+    cells = [("written", alone, alone, "TO"), ("read", f"{alone}.table", f"{alone}.jp", "FROM")]
+    for label, of_table, of_jp, way in cells:
+        table, jp = ours(["convert", kanji], way, of_table)[1], ours(["jp", roman, kanji], way, of_jp)[1]
+        print(f"Kanji alone, {label}: its table {table} MB/s, ISO-2022-JP {jp} MB/s", flush=True)
 PY
