@@ -60,7 +60,7 @@ def watch(child):
     while True:
         found = processes()
         for process, (_, seconds) in found.items():
-            if process not in works and is_below(process, child.pid, found):
+            if not works.get(process) and is_below(process, child.pid, found):
                 works[process] = work_of(process)
             if works.get(process):
                 seen[process] = works[process], seconds
