@@ -86,12 +86,12 @@ def drawn(draw):
     names = [draw.choice(WRONG) if draw.random() < 0.01 else spelled(draw, name) for name in (source, target)]
     size = size_of(draw)
     if draw.random() < 0.1:
-        return *names, draw.randbytes(size)
+        return (*names, bytes(draw.randrange(256) for _ in range(size)))
     made = text_of(draw, size, source == "ASCII" or target == "ASCII" and draw.random() < 0.7)
     content = made.encode(SETS[source])
     if source == "UTF-16" and draw.random() < 0.5:
         content = draw.choice([b"", b"\xfe\xff"]) + made.encode(draw.choice(["utf-16-le", "utf-16-be"]))
-    return *names, broken(draw, content) if draw.random() < 0.4 else content
+    return (*names, broken(draw, content) if draw.random() < 0.4 else content)
 
 
 def done(program, names, content, folder):

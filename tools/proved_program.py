@@ -3,11 +3,12 @@
 
     tools/proved_program.py [RT]
 
-RT is the toolchain's command, the first rt of PATH where none is given. Does nothing where it is. Else it proves the crates that the program stands on and the program, lowest first,
-side by side where rt lets them, with a line a crate on the standard error, and puts the new program in place only
-once all is proved and no source has changed meanwhile. So a failed build leaves the program of before, and two runs
-at once don't build twice. WENSIBAG_JOBS=N lets at most N crates be proved at a time (as many as there are processors
-and memory, where it isn't set).
+RT is the toolchain's command, the first rt of PATH where none is given. Nothing is done where the program is that of
+the sources. Else the crates that it stands on and the program are proved, lowest first, side by side where rt lets
+them, with a line a crate on the standard error, and the new program is put in place only once all is proved and no
+source has changed meanwhile. So a failed build leaves the program of before, and two runs at once don't build twice.
+WENSIBAG_JOBS=N lets at most N crates be proved at a time (as many as there are processors and memory, where it isn't
+set).
 
 out/iconv_batch.stamp has what the program was made from: the toolchain's version and the sum of each source. out/seen
 has the times of change that a look into the sources began with, for the quick test of ./wensibag.

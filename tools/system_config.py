@@ -3,11 +3,11 @@
 
     tools/system_config.py [--into DIR] [--gconv DIR] [--charmaps DIR]
 
-DIR (./charsets where none is given) gets the files gconv-modules and bindings and the folder charmaps, as docs/FORMATS.md
-says. They are made from the GNU C Library's gconv-modules with its gconv-modules.d and from the charmaps of the package
-locales. A charset gets the charmap that has its name, or else the one that has a name in common with it; a charset
-whose charmap isn't there, or has a fault, is left out. Each charset gets a module word of its own, so that none is
-bound to another one's table. It prints how many are bound and why each other one isn't.
+DIR (./charsets where none is given) gets the files gconv-modules and bindings and the folder charmaps, as
+docs/FORMATS.md says. They are made from the GNU C Library's gconv-modules with its gconv-modules.d and from the
+charmaps of the package locales. A charset gets the charmap that has its name, or else the one that has a name in
+common with it; a charset whose charmap isn't there, or has a fault, is left out. Each charset gets a module word of its
+own, so that none is bound to another one's table. It prints how many are bound and why each other one isn't.
 """
 import argparse
 import collections
@@ -47,6 +47,11 @@ def normal(text):
     first, second, rest = (kept.split("/") + ["", ""])[:3]
     name = f"{first}/{second}/"
     return name if first and not rest and len(name) <= 64 else None
+
+
+def bare(name):
+    """A normal form without the slashes that end it."""
+    return name[:-2] if name.endswith("//") else name
 
 
 def stop(text):
@@ -206,7 +211,8 @@ def read_charmap(text):
 
 def names_in(text):
     """The names that a charmap gives itself: its code set's name, and the aliases in its comments."""
-    found = re.findall(rb"(?m)^<code_set_name>[ \t]+\"?([^\s\"]+)|^.[ \t]*alias[ \t]+(\S+)", text.partition(b"\nCHARMAP")[0])
+    head = text.partition(b"\nCHARMAP")[0]
+    found = re.findall(rb"(?m)^<code_set_name>[ \t]+\"?([^\s\"]+)|^.[ \t]*alias[ \t]+(\S+)", head)
     return [normal((first or second).decode("ascii", "replace")) for first, second in found]
 
 
@@ -216,7 +222,7 @@ class Shipped:
     def __init__(self, folder):
         self.texts, self.files, self.others = {}, {}, collections.defaultdict(list)
         for path in sorted(glob.glob(f"{folder}/*")):
-            name = os.path.basename(path).removesuffix(".gz")
+            name = re.sub(r"\.gz$", "", os.path.basename(path))
             with gzip.open(path) if path.endswith(".gz") else open(path, "rb") as file:
                 self.texts[name] = file.read()
             self.files.setdefault(normal(name), name)
@@ -278,7 +284,7 @@ class Made:
 
     def bind(self, name, lines, words):
         """Binds one charset, in the ways that the library has, by a module word of its own."""
-        module = name.removesuffix("//").replace("/", "-")
+        module = bare(name).replace("/", "-")
         self.sets[name] = [way for way in ("from", "to") if way in lines]
         for way in self.sets[name]:
             ends = (name, "INTERNAL") if way == "from" else ("INTERNAL", name)
@@ -362,7 +368,7 @@ def tell(folder, made, aliases, lost):
     print(f"{len(made.sets) + built_in + len(aliases)} names, {len(aliases)} of them aliases")
     print(f"left out, with {len(lost)} aliases: {len(made.left)}")
     for name, why in made.left:
-        print(f"  {name.removesuffix('//')}: {why}")
+        print(f"  {bare(name)}: {why}")
     print(f"written: {folder}/gconv-modules, {folder}/bindings, {folder}/charmaps")
 
 
