@@ -28,6 +28,8 @@ import time
 TOP = os.path.dirname(os.path.dirname(os.path.realpath(__file__)))
 PROGRAM, OUT = "iconv_batch", f"{TOP}/out"
 KEPT, STAMP, SEEN = f"{OUT}/{PROGRAM}", f"{OUT}/{PROGRAM}.stamp", f"{OUT}/seen"
+# Where rt builds the program, and what it says of each crate.
+BUILT, LOGS = f"{TOP}/crates/{PROGRAM}/out/{PROGRAM}", f"{OUT}/logs"
 FAILED, PARTS = 70, ("src", "specs", "proofs")
 # What one check of a crate takes at most, mostly, in KiB.
 MEMORY = 3 * 2**20
@@ -139,60 +141,70 @@ def at_a_time():
     return max(1, min(len(os.sched_getaffinity(0)), fits))
 
 
-def prove(rt, crates):
-    """Proves the crates, each once those below it are proved, and builds the program."""
-    below = {}
-    for name, right_below in crates.items():
-        below[name] = {name}.union(*(below[it] for it in right_below))
-    logs, most, begun = f"{OUT}/logs", at_a_time(), 0
-    shutil.rmtree(logs, ignore_errors=True)
-    os.makedirs(logs)
-    waiting, running, proved = list(crates), {}, set()
+class Proving:
+    """Proves crates, each once those below it are proved, and builds the program."""
 
-    def is_ready(name):
-        # rt keeps a crate and all below it to itself while it works there
-        return below[name] - {name} <= proved and not any(below[name] & below[it] for it in running)
+    def __init__(self, rt, crates):
+        self.rt, self.number, self.most, self.begun = rt, len(crates), at_a_time(), 0
+        self.below, behind = {}, dict.fromkeys(crates, 0)
+        for name, right_below in crates.items():
+            self.below[name] = {name}.union(*(self.below[it] for it in right_below))
+        for name in reversed(list(crates)):
+            for it in crates[name]:
+                behind[it] = max(behind[it], behind[name] + 1)
+        # first those with the longest chain of others above them
+        self.waiting = sorted(crates, key=lambda it: -behind[it])
+        self.running, self.proved = {}, set()
+        shutil.rmtree(LOGS, ignore_errors=True)
+        os.makedirs(LOGS)
 
-    def start(name, alone):
-        nonlocal begun
-        begun += 1
-        say(f"proving {begun} of {len(crates)}: {name}")
-        words = [rt, "run" if name == PROGRAM else "lib"] + ([] if alone and most > 1 else ["--jobs", "1"])
-        with open(f"{logs}/{name}", "wb") as log:
-            running[name] = subprocess.Popen(words, cwd=f"{TOP}/crates/{name}", stdin=subprocess.DEVNULL, stdout=log,
-                                             stderr=subprocess.STDOUT, start_new_session=True)
+    def is_ready(self, name, beside=()):
+        """Whether a crate can be proved beside those that run and these: rt keeps a crate and all below to itself."""
+        return self.below[name] - {name} <= self.proved and not any(
+            self.below[name] & self.below[it] for it in (*self.running, *beside))
 
-    def end_all():
-        for child in running.values():
+    def start(self, name):
+        self.waiting.remove(name)
+        others = [it for it in self.waiting if self.is_ready(it, [name])]
+        share = max(1, self.most // (len(self.running) + 1 + len(others)))
+        # rt itself knows best how many jobs a crate alone can use
+        jobs = ["--jobs", str(share)] if share < self.most or self.most == 1 else []
+        self.begun += 1
+        say(f"proving {self.begun} of {self.number}: {name}")
+        with open(f"{LOGS}/{name}", "wb") as log:
+            self.running[name] = subprocess.Popen(
+                [self.rt, "run" if name == PROGRAM else "lib", *jobs], cwd=f"{TOP}/crates/{name}",
+                stdin=subprocess.DEVNULL, stdout=log, stderr=subprocess.STDOUT, start_new_session=True)
+
+    def take_ended(self):
+        for name, child in list(self.running.items()):
+            status = child.poll()
+            if status is None:
+                continue
+            del self.running[name]
+            # The program was run without words, so its own status says nothing: it must have been made.
+            if status != 0 if name != PROGRAM else not os.access(BUILT, os.X_OK):
+                stop_on(name, f"{LOGS}/{name}")
+            self.proved.add(name)
+
+    def end_all(self):
+        for child in self.running.values():
             try:
                 os.killpg(child.pid, signal.SIGTERM)
             except ProcessLookupError:
                 pass
             child.wait()
 
-    try:
-        while waiting or running:
-            for name in list(waiting):
-                if len(running) < most and is_ready(name):
-                    waiting.remove(name)
-                    others = [it for it in waiting if is_ready(it) and not below[it] & below[name]]
-                    start(name, not running and not others)
-            time.sleep(0.05)
-            for name, child in list(running.items()):
-                status = child.poll()
-                if status is None:
-                    continue
-                del running[name]
-                # The program was run without words, so its own status says nothing: it must have been made.
-                if status != 0 if name != PROGRAM else not os.access(built(), os.X_OK):
-                    stop_on(name, f"{logs}/{name}")
-                proved.add(name)
-    finally:
-        end_all()
-
-
-def built():
-    return f"{TOP}/crates/{PROGRAM}/out/{PROGRAM}"
+    def run(self):
+        try:
+            while self.waiting or self.running:
+                for name in list(self.waiting):
+                    if len(self.running) < self.most and self.is_ready(name):
+                        self.start(name)
+                time.sleep(0.05)
+                self.take_ended()
+        finally:
+            self.end_all()
 
 
 def stop_on(name, log):
@@ -208,12 +220,12 @@ def build(rt, crates, stamp):
     started = time.monotonic()
     say(f"proving and building the program, {len(crates)} crates; the first time takes some minutes")
     # rt leaves an old program where a source is refused, so what is there afterwards must be new.
-    if os.path.lexists(built()):
-        os.remove(built())
-    prove(rt, crates)
+    if os.path.lexists(BUILT):
+        os.remove(BUILT)
+    Proving(rt, crates).run()
     if Look(rt).stamp != stamp:
         stop("a source or the toolchain has changed meanwhile: run it again (what is proved stays so)")
-    shutil.copy2(built(), f"{KEPT}.new")
+    shutil.copy2(BUILT, f"{KEPT}.new")
     if os.path.exists(STAMP):
         os.remove(STAMP)
     os.replace(f"{KEPT}.new", KEPT)
