@@ -1,2 +1,3 @@
 pub mod Builds
-pub mod Libraries
+pub mod Fetching
+pub mod Refusals

@@ -1,27 +1,26 @@
 //! Tables of modules, from a library.
-ghost use Rattle.std.specs.Prelude.{◌≡◌, [], ◌∷◌, ◌++◌, ◌<◌, ◌≤◌, length, All, IfOk, IfErr, IfSome, string_bytes};
+ghost use Rattle.std.specs.Prelude.{◌≡◌, [], ◌∷◌, ◌<◌, length, All, Err, true, IfOk, IfErr, IfSome, string_bytes};
 ghost use Rattle.std.specs.Str.{IsUtf8};
 ghost use Rattle.code_pairs.specs.Tables.{IsWellFormed};
-ghost use Rattle.batch_outside.specs.Faults.{Rose};
-ghost use Rattle.batch_outside.specs.Takes.{Takes, FitsLimit};
+ghost use Rattle.modules_conf.specs.Charmaps.{names_charmaps};
+ghost use Rattle.text_lines.specs.Limits.{longest_text};
+ghost use Rattle.outside.specs.Takes.{Takes};
 ghost use Rattle.runtime_histories.specs.Settings.{Source, path_of, charmaps_of};
-ghost use Rattle.runtime_histories.specs.Charmaps.{text_of, wanted, IsTableOf, AreTablesOf, AreText, HasText, AreFetched, each};
-ghost use Rattle.charmap_library.specs.Libraries.{RefusesOne, RefusesSome, IsFailure};
+ghost use Rattle.runtime_histories.specs.Charmaps.{text_of, wanted, IsTableOf, AreText, HasText, each};
+ghost use Rattle.charmap_library.specs.Fetching.{Fetches, FetchesModules, Stops};
+ghost use Rattle.charmap_library.specs.Refusals.{RefusesOne, IsFailure};
 ghost use Rattle.runtime_histories.specs.declared.refusals.TextFault as text_faults;
 
-use crate::library::Library;
-use crate::texts::{BuildFault, table_of};
-use batch_outside::Taken;
+use crate::texts::{BuildFault, build_table};
 use charmap_reader::{MapFault, MapKind};
 use code_table::CodeTable;
 use module_graph::Graph;
 use modules_conf::Kind;
 use names_alias::Word;
+use outside::{Fetched, Library};
 use runtime_histories::{ModuleTables, Refusal, TextFault};
 use std::alloc::{AllocError, Global};
-
-/// The most bytes of a charmap text.
-const MOST_BYTES: u32 = 16_777_216;
+use text_lines::LONGEST_TEXT;
 
 /// The path of a charmap: the directory, a slash and the word.
 fn path_to(alloc: Global, dir: &str, word: &Word) -> Result<String, AllocError>
@@ -54,23 +53,29 @@ fn refusal_of(fault: BuildFault, module: u32, word: &Word) -> Refusal
 }
 
 /// The table that what was fetched for a charmap gives.
-fn table_from(alloc: Global, fetched: Taken, module: u32, word: &Word) -> Result<CodeTable, Refusal>
-    ensures ok { (s : Source) → IfSome s.texts (λ shelf. Takes (text_of s shelf word.now) MOST_BYTES fetched)
+fn table_from(
+    alloc: Global,
+    fetched: Fetched,
+    module: u32,
+    word: &Word,
+) -> Result<CodeTable, Refusal>
+    ensures ok { (s : Source) → IfSome s.texts (λ shelf. Takes (text_of s shelf word.now) longest_text fetched)
         → IfOk result (IsTableOf s word.now) }
-    ensures err { (s : Source) → IfSome s.texts (λ shelf. Takes (text_of s shelf word.now) MOST_BYTES fetched)
+    ensures err { (s : Source) → IfSome s.texts (λ shelf. Takes (text_of s shelf word.now) longest_text fetched)
         → IfErr result (RefusesOne s «module» word.now) }
-    ensures failed { IfErr result (λ why. IsFailure why → fetched ≡ Taken.Failed) }
+    ensures failed { IfErr result (λ why. IsFailure why → fetched ≡ Fetched.Failed) }
+    ensures memory { fetched ≡ Fetched.Memory → result ≡ Err Refusal.Memory }
 {
     match fetched {
-        Taken::Bytes(text) => match table_of(alloc, text.as_slice()) {
+        Fetched::Bytes(text) => match build_table(alloc, text.as_slice()) {
             Ok(table) => Ok(table),
             Err(fault) => Err(refusal_of(fault, module, word)),
         },
-        Taken::Absent => Err(Refusal::NoCharmap {
+        Fetched::Absent => Err(Refusal::NoCharmap {
             module,
             charmap: word.copied(),
         }),
-        Taken::TooLarge => Err(Refusal::BadCharmap {
+        Fetched::TooLarge => Err(Refusal::BadCharmap {
             module,
             charmap: word.copied(),
             fault: TextFault::Map(MapFault {
@@ -78,16 +83,16 @@ fn table_from(alloc: Global, fetched: Taken, module: u32, word: &Word) -> Result
                 line: 0,
             }),
         }),
-        Taken::Failed => Err(Refusal::LibraryFault {
+        Fetched::Failed => Err(Refusal::LibraryFault {
             module,
             charmap: word.copied(),
         }),
-        Taken::Memory => Err(Refusal::Memory),
+        Fetched::Memory => Err(Refusal::Memory),
     }
 }
 
-/// Fetches a charmap, and builds its table.
-pub fn fetch_one<L: Library>(
+/// Fetches a charmap of a module, and builds its table.
+fn fetch_one<L: Library>(
     alloc: Global,
     library: &mut L,
     dir: &str,
@@ -95,18 +100,16 @@ pub fn fetch_one<L: Library>(
     word: &Word,
 ) -> Result<CodeTable, Refusal>
     requires { IsUtf8 word.now }
-    ensures ok { IfOk result (IsTableOf (record { directory = dir.now; texts = L.told library.old }) word.now) }
-    ensures err { IfErr result
-        (RefusesOne (record { directory = dir.now; texts = L.told library.old }) «module» word.now) }
-    ensures told { L.told library.new ≡ L.told library.old }
-    ensures count { L.faults library.old ≤ L.faults library.new }
-    ensures failed { IfErr result (λ why. IsFailure why → Rose (L.faults library.old) (L.faults library.new)) }
+    ensures ok { IfOk result (λ table. Fetches dir.now (L.holdings library.old) (L.holdings library.new)
+        (each «module» (word.now ∷ [])) (table ∷ [])) }
+    ensures err { IfErr result (Stops dir.now (L.holdings library.old) (L.holdings library.new)
+        (each «module» (word.now ∷ []))) }
 {
     let path = match path_to(alloc, dir, word) {
         Ok(path) => path,
         Err(_) => return Err(Refusal::Memory),
     };
-    let fetched = library.fetch(alloc, path.as_str(), MOST_BYTES);
+    let fetched = library.fetch(alloc, path.as_str(), LONGEST_TEXT);
     table_from(alloc, fetched, module, word)
 }
 
@@ -119,12 +122,10 @@ fn fetch_single<L: Library>(
     word: &Word,
 ) -> Result<ModuleTables, Refusal>
     requires { IsUtf8 word.now }
-    ensures ok { IfOk result (AreTablesOf (record { directory = dir.now; texts = L.told library.old }) (word.now ∷ [])) }
-    ensures err { IfErr result (RefusesSome (record { directory = dir.now; texts = L.told library.old })
+    ensures ok { IfOk result (Fetches dir.now (L.holdings library.old) (L.holdings library.new)
         (each «module» (word.now ∷ []))) }
-    ensures told { L.told library.new ≡ L.told library.old }
-    ensures count { L.faults library.old ≤ L.faults library.new }
-    ensures failed { IfErr result (λ why. IsFailure why → Rose (L.faults library.old) (L.faults library.new)) }
+    ensures err { IfErr result (Stops dir.now (L.holdings library.old) (L.holdings library.new)
+        (each «module» (word.now ∷ []))) }
 {
     let table = match fetch_one(alloc, library, dir, module, word) {
         Ok(table) => table,
@@ -162,13 +163,10 @@ fn fetch_double<L: Library>(
 ) -> Result<ModuleTables, Refusal>
     requires first { IsUtf8 first.now }
     requires second { IsUtf8 second.now }
-    ensures ok { IfOk result (AreTablesOf (record { directory = dir.now; texts = L.told library.old })
-        (first.now ∷ second.now ∷ [])) }
-    ensures err { IfErr result (RefusesSome (record { directory = dir.now; texts = L.told library.old })
+    ensures ok { IfOk result (Fetches dir.now (L.holdings library.old) (L.holdings library.new)
         (each «module» (first.now ∷ second.now ∷ []))) }
-    ensures told { L.told library.new ≡ L.told library.old }
-    ensures count { L.faults library.old ≤ L.faults library.new }
-    ensures failed { IfErr result (λ why. IsFailure why → Rose (L.faults library.old) (L.faults library.new)) }
+    ensures err { IfErr result (Stops dir.now (L.holdings library.old) (L.holdings library.new)
+        (each «module» (first.now ∷ second.now ∷ []))) }
 {
     let one = match fetch_one(alloc, library, dir, module, first) {
         Ok(table) => table,
@@ -190,13 +188,10 @@ fn fetch_module<L: Library>(
     kind: &Kind,
 ) -> Result<ModuleTables, Refusal>
     requires { AreText kind.now }
-    ensures ok { IfOk result (AreTablesOf (record { directory = dir.now; texts = L.told library.old })
-        (charmaps_of kind.now)) }
-    ensures err { IfErr result (RefusesSome (record { directory = dir.now; texts = L.told library.old })
+    ensures ok { IfOk result (Fetches dir.now (L.holdings library.old) (L.holdings library.new)
         (each «module» (charmaps_of kind.now))) }
-    ensures told { L.told library.new ≡ L.told library.old }
-    ensures count { L.faults library.old ≤ L.faults library.new }
-    ensures failed { IfErr result (λ why. IsFailure why → Rose (L.faults library.old) (L.faults library.new)) }
+    ensures err { IfErr result (Stops dir.now (L.holdings library.old) (L.holdings library.new)
+        (each «module» (charmaps_of kind.now))) }
 {
     match kind {
         Kind::Table { map } => fetch_single(alloc, library, dir, module, map),
@@ -209,7 +204,8 @@ fn fetch_module<L: Library>(
     }
 }
 
-/// Fetches the charmaps of modules in order, and builds their tables.
+/// Fetches the charmaps of modules in order, and builds their tables. It stops at the first charmap
+/// that has none.
 pub fn fetch_missing<L: Library>(
     alloc: Global,
     graph: &Graph,
@@ -219,13 +215,10 @@ pub fn fetch_missing<L: Library>(
 ) -> Result<Vec<ModuleTables>, Refusal>
     requires known { All (λ m. m < length graph.now.kinds) missing.now }
     requires text { HasText graph.now }
-    ensures ok { IfOk result (λ v. AreFetched (record { directory = dir.now; texts = L.told library.old })
-        graph.now missing.now v.items) }
-    ensures err { IfErr result (RefusesSome (record { directory = dir.now; texts = L.told library.old })
+    ensures ok { IfOk result (λ all. FetchesModules dir.now graph.now (L.holdings library.old) (L.holdings library.new)
+        missing.now all.items) }
+    ensures err { IfErr result (Stops dir.now (L.holdings library.old) (L.holdings library.new)
         (wanted graph.now missing.now)) }
-    ensures told { L.told library.new ≡ L.told library.old }
-    ensures count { L.faults library.old ≤ L.faults library.new }
-    ensures failed { IfErr result (λ why. IsFailure why → Rose (L.faults library.old) (L.faults library.new)) }
 {
     let mut all = Vec::new(alloc);
     for module in missing {

@@ -42,7 +42,7 @@ fn read_fault(fault: ReadFault) -> BuildFault
 }
 
 /// The table that a charmap text stands for.
-pub fn table_of(alloc: Global, text: &[u8]) -> Result<CodeTable, BuildFault>
+pub fn build_table(alloc: Global, text: &[u8]) -> Result<CodeTable, BuildFault>
     ensures pairs { IfOk result (λ table. charmap_of text.now ≡ Ok table) }
     ensures apart { IfOk result IsWellFormed }
     ensures err { IfErr result (IsBuildFault text.now) }

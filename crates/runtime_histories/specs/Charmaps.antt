@@ -8,7 +8,7 @@ use Rattle.code_pairs.specs.Tables as tables
 use Rattle.charmap_reader.specs.Charmap.{charmap_of}
 use Rattle.trie.specs.Overlaps.{IsLeastOverlap}
 use Rattle.code_table.specs.Looks.{codes_of}
-use Rattle.batch_outside.specs.Shelves.{Shelf, content_of}
+use Rattle.outside.specs.Shelves.{Shelf, content_of}
 use Rattle.module_graph.specs.Graph.{Shape}
 use Rattle.runtime_histories.specs.declared.refusals.TextFault.{TextFault}
 use Rattle.runtime_histories.specs.declared.refusals.TextFault.TheVariants.{Map, Overlap}
