@@ -23,7 +23,7 @@ use Rattle.charmap_library.specs.Refusals.{RefusesOne, IsFailure}
 abbrev Paths : Type 0
 Paths = List (List ℕ)
 
-more_none : (o : Option Paths) → o ≡ option_map (λ asked. asked ++ []) o
+pub more_none : (o : Option Paths) → o ≡ option_map (λ asked. asked ++ []) o
 more_none None = refl
 more_none (Some asked) = ap Some (sym (append-nil asked))
 

@@ -188,7 +188,7 @@ impl Counts {
     pub fn choose(&self, alloc: Global, need: u64) -> Result<Vec<u32>, Refusal>
         ensures { MatchResult result
             (λ v. (v.items ≡ lowest self.now.pages (all_pages (places self.now.pages (deeds self.now.journal))) need)
-            × (need ≤ free self.now.pages (deeds self.now.journal)))
+            × (need ≤ free self.now.pages (deeds self.now.journal)) × (length v.items ≡ need) × (need < 2 ^ 32))
             (RefusesPages self.now need) }
     {
         let free = self.free_pages();

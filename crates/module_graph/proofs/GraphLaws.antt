@@ -1,22 +1,36 @@
 -- What holds of every graph of a configuration.
-use Rattle.std.proofs.Common.{◌≡◌, ℕ, suc, ◌<◌, Bool, true, false, if◌then◌else◌, eqb, List, [], ◌∷◌, ◌++◌, length, get_or, Option, Some, None, IfSome, refl, sym, ap, ◌∙◌, subst, arith}
+use Rattle.std.proofs.Common.{◌≡◌, ℕ, suc, ◌<◌, Bool, true, false, if◌then◌else◌, eqb, List, [], ◌∷◌, ◌++◌, length, get_or, Option, Some, None, IfSome, unwrap_or, refl, sym, ap, ◌∙◌, subst, arith}
 use Rattle.std.specs.List.{All, Contains, list_any, find, filter_map, cons_option}
 use Rattle.std.specs.Option.{option_map}
 use Rattle.std.specs.Str.{bytes_eq}
 use Rattle.std.proofs.lemmas.List.Elements.{All-nil, All-cons, All-append}
+use Rattle.std.proofs.lemmas.Option.{none-some}
 use Rattle.modules_conf.specs.Charmaps.{names_charmaps}
 use Rattle.modules_conf.specs.declared.kind.Kind.{Kind}
 use Rattle.modules_conf.specs.declared.lines.EdgeLine.{EdgeLine}
 use Rattle.modules_conf.specs.declared.bindings.Binding.{Binding}
 use Rattle.module_graph.specs.declared.edge.Edge.{Edge}
 use Rattle.module_graph.specs.Edges.{NamedEdge, builtin_pair, builtin_edges, named_edges, kind_bound, kind_of_line, if_allowed, allows, edge_by, edge_of_line}
-use Rattle.module_graph.specs.Graph.{Shape, IsGraph}
+use Rattle.module_graph.specs.Graph.{Shape, IsGraph, IsKnown}
 use Rattle.module_graph.specs.Numbers.{same_kind, with_new, kinds_after, graph_of}
 use Rattle.module_graph.proofs.OrdinalSearch.{find_there}
 
 -- an edge is found by its ordinal
 pub found : (g : Shape) (e : Edge) → IsGraph g → Contains g.edges e → find (λ f. eqb f.ordinal e.ordinal) g.edges ≡ Some e
 found g e ok c = find_there g.edges ok.rising e.ordinal c.0 e c.1 (ap (λ x. x.ordinal) c.2) ∙ ap Some c.2
+
+-- What holds of all edges holds of one that is found.
+pub found_holds : (P : Edge → Type 0) (p : Edge → Bool) (es : List Edge) (e : Edge) → All P es → find p es ≡ Some e → P e
+found_holds P p [] e all is = absurd (none-some e is)
+found_holds P p (x ∷ xs) e all is = go (λ z. found_holds P p xs e (λ k d fit. all (suc k) d (omega (arith, fit))) z) (p x) is
+  where
+    go : (find p xs ≡ Some e → P e) → (t : Bool) → (if t then Some x else find p xs) ≡ Some e → P e
+    go rec true z = subst P (ap (λ (o : Option Edge). unwrap_or o x) z) (all 0 x (omega arith))
+    go rec false z = rec z
+
+-- The module of an edge that is found is one of the graph's.
+pub known_found : (g : Shape) (o : ℕ) (e : Edge) → IsGraph g → find (λ (x : Edge). eqb x.ordinal o) g.edges ≡ Some e → IsKnown (length g.kinds) e
+known_found g o e ok is = found_holds (IsKnown (length g.kinds)) (λ (x : Edge). eqb x.ordinal o) g.edges e ok.known is
 
 abbrev Names : Kind → Type 0
 Names kind = names_charmaps kind ≡ true

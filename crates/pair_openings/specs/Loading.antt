@@ -1,5 +1,5 @@
 -- What comes of loading modules: their tables, and pages for these.
-use Rattle.std.specs.Prelude.{◌≡◌, ℕ, ◌<◌, ◌≤◌, List, [], ◌∷◌, map}
+use Rattle.std.specs.Prelude.{◌≡◌, ℕ, ◌<◌, ◌≤◌, ◌^◌, List, [], ◌∷◌, length}
 use Rattle.code_pairs.specs.Tables.{Tables}
 use Rattle.module_graph.specs.Graph.{Shape}
 use Rattle.outside.specs.Moments.{Holdings}
@@ -7,7 +7,7 @@ use Rattle.runtime_histories.specs.declared.refusals.Refusal.{Refusal}
 use Rattle.runtime_histories.specs.declared.refusals.Refusal.TheVariants as refusals
 use Rattle.runtime_histories.specs.Charmaps.{wanted}
 use Rattle.runtime_histories.specs.Deeds.{Deeds, Loaded}
-use Rattle.runtime_histories.specs.Places.{free}
+use Rattle.runtime_histories.specs.Places.{free, lowest, all_pages, places}
 use Rattle.charmap_library.specs.Fetching.{FetchesModules, Stops}
 use Rattle.pair_openings.specs.Cuts.{needs, total}
 
@@ -36,3 +36,11 @@ pub record IsOver (g : Ground) (old new : Holdings) (modules : List ℕ) (need l
 abbrev pub RefusesLoads : Ground → Holdings → Holdings → List ℕ → Refusal → Type 0
 RefusesLoads g old new modules (refusals.StoreFull need left) = IsOver g old new modules need left
 RefusesLoads g old new modules why = Stops g.directory old new (wanted g.graph modules) why
+
+-- The tables of modules were fetched, there is room for them, and these are the lowest free pages, as many as they need.
+pub record IsLoaded (g : Ground) (old new : Holdings) (modules : List ℕ) (tables : List Tables) (pages : List ℕ) : Type 0 where
+  pub fetched : FetchesModules g.directory g.graph old new modules tables
+  pub pages_are : pages ≡ lowest g.pages (all_pages (places g.pages g.log)) (total (needs tables))
+  pub room : total (needs tables) ≤ free g.pages g.log
+  pub enough : length pages ≡ total (needs tables)
+  pub few : total (needs tables) < 2 ^ 32

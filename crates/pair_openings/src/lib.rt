@@ -5,9 +5,11 @@
 mod loads;
 mod names;
 mod parts;
+mod planning;
 mod search;
 
 pub use loads::loads_of;
 pub use names::asked;
 pub use parts::{cut, pages_needed};
+pub use planning::{Opening, plan};
 pub use search::find_chain;

@@ -1,5 +1,5 @@
 use Rattle.std.proofs.Common.{◌≡◌, Some, refl, sym, ap, ◌∙◌, arith}
-use Rattle.chain_recipes.proofs.Along.{known_found}
+use Rattle.module_graph.proofs.GraphLaws.{known_found}
 use Rattle.chain_recipes.proofs.recipe.push_stage.Goals as goal
 
 pub stage_of-tables-requires-clause-known : goal.stage_of-tables-requires-clause-known
