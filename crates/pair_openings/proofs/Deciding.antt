@@ -93,7 +93,7 @@ module _ (g : Shape) (ok : IsGraph g) where
   pub absent_known : (log : Deeds) (os : List ℕ) → All Known (absent_among log (modules_of g.edges os))
   absent_known log os = new_known [] (filter (λ m. not (resident (marks log) m)) (modules_of g.edges os)) (All-nil Known) (filter_known (λ m. not (resident (marks log) m)) (modules_of g.edges os) (modules_known os))
 
-asked_none : (h : Holdings) → Asked h h []
+pub asked_none : (h : Holdings) → Asked h h []
 asked_none h = record { told = refl; paths = more_none h.paths; count = omega arith }
 
 -- No chain leads from the one name to the other.

@@ -2,12 +2,14 @@
 //! the tables of modules that aren't resident, and the pages that these get.
 #![tactic(auto)]
 
+mod answer;
 mod loads;
 mod names;
 mod parts;
 mod planning;
 mod search;
 
+pub use answer::decide;
 pub use loads::loads_of;
 pub use names::asked;
 pub use parts::{cut, pages_needed};
