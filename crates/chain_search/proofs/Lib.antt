@@ -4,3 +4,4 @@ pub mod Tracing
 pub mod Turning
 pub mod Frontiers
 pub mod Offers
+pub mod Shortness

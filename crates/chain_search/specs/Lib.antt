@@ -3,3 +3,4 @@ pub mod Answer
 pub mod Steps
 pub mod Frontier
 pub mod Search
+pub mod Laws

@@ -3,6 +3,7 @@
 
 mod chain;
 mod frontier;
+mod laws;
 mod relax;
 mod search;
 mod step;
@@ -12,4 +13,5 @@ mod tests;
 mod trace;
 
 pub use chain::{Chain, Ordinals};
+pub use laws::least_chains_are_short;
 pub use search::least;

@@ -30,7 +30,7 @@ ends_of e = e.source ∷ e.target ∷ []
 abbrev kind_in : NamedEdge → Option Kind
 kind_in e = e.kind
 
-abbrev HasKind : List Kind → Option Kind → Type 0
+abbrev pub HasKind : List Kind → Option Kind → Type 0
 HasKind kinds None = Unit {0}
 HasKind kinds (Some kind) = list_any (same_kind kind) kinds ≡ true
 

@@ -6,3 +6,4 @@ pub mod OrdinalSearch
 pub mod Whole
 pub mod Shaping
 pub mod NodeLaws
+pub mod GraphLaws

@@ -1,15 +1,17 @@
 -- The list of nodes has exactly the ends of the edges, each once, and that of modules likewise.
-use Rattle.std.proofs.Common.{◌≡◌, ◌≢◌, ℕ, Bool, true, false, ◌||◌, List, [], ◌∷◌, ◌++◌, if◌then◌else◌, refl, sym, ap, ◌∙◌, subst, arith}
-use Rattle.std.specs.List.{AllPairs, list_any, flat_map}
+use Rattle.std.proofs.Common.{◌≡◌, ◌≢◌, ℕ, Bool, true, false, ◌&&◌, ◌||◌, List, [], ◌∷◌, ◌++◌, if◌then◌else◌, refl, sym, ap, ◌∙◌, subst, arith}
+use Rattle.std.specs.List.{AllPairs, list_any, filter_map, flat_map}
 use Rattle.std.specs.Str.{bytes_eq}
 use Rattle.std.proofs.lemmas.Bool.{false≢true}
 use Rattle.std.proofs.lemmas.List.Folds.{list_any-append, list_any_at}
 use Rattle.std.proofs.lemmas.List.Quantifiers.{all_pairs_push}
 use Rattle.std.proofs.lemmas.Slice.Eq.{bytes_eq-Decides}
 use Rattle.indexmap.specs.IndexSet.{insert_key}
+use Rattle.modules_conf.specs.declared.kind.Kind.{Kind}
+use Rattle.modules_conf.specs.declared.kind.Kind.TheVariants.{Table, Iso2022Jp, Recode}
 use Rattle.module_graph.specs.Edges.{NamedEdge}
-use Rattle.module_graph.specs.Numbers.{with_new, node_names, is_end}
-use Rattle.module_graph.proofs.Drafting.{bytes_itself}
+use Rattle.module_graph.specs.Numbers.{with_new, node_names, is_end, same_kind, kinds_after}
+use Rattle.module_graph.proofs.Drafting.{bytes_itself, kind_itself}
 
 or_assoc : (a b c : Bool) → ((a || b) || c) ≡ (a || (b || c))
 or_assoc true b c = refl
@@ -73,3 +75,30 @@ nodes_are_ends es name = with_new_has bytes_eq (λ x y h. (bytes_eq-Decides x y)
 -- no name is two nodes
 pub nodes_differ : (es : List NamedEdge) → AllPairs (λ x y. x ≢ y) (node_names es)
 nodes_differ es = with_new_distinct bytes_eq (λ x y h. (bytes_eq-Decides x y).0 h) bytes_itself [] (flat_map (λ e. e.source ∷ e.target ∷ []) es) (λ i j d lt fit. absurd (omega arith))
+
+words_same : (xs ys : List ℕ) → bytes_eq xs ys ≡ true → xs ≡ ys
+words_same xs ys h = (bytes_eq-Decides xs ys).0 h
+
+both_true : (a b : Bool) → (a && b) ≡ true → (a ≡ true) × (b ≡ true)
+both_true true b h = (refl, h)
+both_true false b h = absurd (false≢true h)
+
+-- kinds that are the same are one
+pub kinds_same : (j k : Kind) → same_kind j k ≡ true → j ≡ k
+kinds_same (Table a) (Table b) h = ap Table (words_same a b h)
+kinds_same (Table a) (Iso2022Jp b c) h = absurd (false≢true h)
+kinds_same (Table a) (Recode b c) h = absurd (false≢true h)
+kinds_same (Iso2022Jp a b) (Table c) h = absurd (false≢true h)
+kinds_same (Iso2022Jp a b) (Iso2022Jp c d) h =
+    let e = both_true (bytes_eq a c) (bytes_eq b d) h in
+    ap (λ x. Iso2022Jp x b) (words_same a c e.0) ∙ ap (λ x. Iso2022Jp c x) (words_same b d e.1)
+kinds_same (Iso2022Jp a b) (Recode c d) h = absurd (false≢true h)
+kinds_same (Recode a b) (Table c) h = absurd (false≢true h)
+kinds_same (Recode a b) (Iso2022Jp c d) h = absurd (false≢true h)
+kinds_same (Recode a b) (Recode c d) h =
+    let e = both_true (bytes_eq a c) (bytes_eq b d) h in
+    ap (λ x. Recode x b) (words_same a c e.0) ∙ ap (λ x. Recode c x) (words_same b d e.1)
+
+-- no kind is two modules
+pub modules_differ : (es : List NamedEdge) → AllPairs (λ x y. x ≢ y) (kinds_after [] es)
+modules_differ es = with_new_distinct same_kind kinds_same kind_itself [] (filter_map (λ e. e.kind) es) (λ i j d lt fit. absurd (omega arith))

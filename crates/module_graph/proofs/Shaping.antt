@@ -1,8 +1,8 @@
 -- The graph of a configuration is a graph.
-use Rattle.std.proofs.Common.{◌≡◌, ℕ, suc, ◌+◌, ◌*◌, ◌^◌, ◌<◌, ◌≤◌, true, List, [], ◌∷◌, ◌++◌, length, map, Option, Some, None, refl, sym, ap, ◌∙◌, subst, arith, Vec, Global}
-use Rattle.std.specs.List.{All, AllPairs, list_any, filter_map, flat_map, enumerate_from, cons_option}
+use Rattle.std.proofs.Common.{◌≡◌, ℕ, suc, ◌+◌, ◌*◌, ◌^◌, ◌<◌, ◌≤◌, true, List, [], ◌∷◌, ◌++◌, length, map, Option, Some, None, IfSome, refl, sym, ap, ◌∙◌, subst, arith, Vec, Global}
+use Rattle.std.specs.List.{All, AllPairs, list_any, filter_map, flat_map, enumerate_from, cons_option, position}
 use Rattle.std.specs.List.Sorted.{IsStrictlyIncreasing}
-use Rattle.std.specs.Option.{option_map}
+use Rattle.std.specs.Option.{option_map, option_and_then}
 use Rattle.std.specs.Str.{bytes_eq}
 use Rattle.std.proofs.lemmas.List.{map-append}
 use Rattle.std.proofs.lemmas.List.Elements.{All-nil, All-cons}
@@ -15,13 +15,13 @@ use Rattle.modules_conf.specs.declared.kind.Kind.{Kind}
 use Rattle.module_graph.specs.declared.edge.Edge.{Edge}
 use Rattle.module_graph.specs.declared.draft.Draft.{Draft}
 use Rattle.module_graph.specs.Edges.{NamedEdge, builtin_pair, builtin_edges, named_edges, skipped_lines, edge_by, edge_of_line, kind_of_line}
-use Rattle.module_graph.specs.Numbers.{node_names, kinds_after, node_number, numbered, graph_of, is_end}
-use Rattle.module_graph.proofs.NodeLaws.{nodes_are_ends}
-use Rattle.module_graph.specs.Graph.{Shape, IsEdge, IsGraph}
+use Rattle.module_graph.specs.Numbers.{same_kind, node_names, kinds_after, node_number, numbered, graph_of, is_end}
+use Rattle.module_graph.proofs.NodeLaws.{nodes_are_ends, nodes_differ, modules_differ}
+use Rattle.module_graph.specs.Graph.{Shape, IsEdge, IsGraph, IsKnown}
 use Rattle.module_graph.specs.Drafts.{IsDraft}
 use Rattle.module_graph.specs.Rows.{AreRows, IsIndexed}
 use Rattle.module_graph.proofs.Firsts.{found_within, position_found}
-use Rattle.module_graph.proofs.Drafting.{AllIn, all_named_in, few_nodes, few_kinds}
+use Rattle.module_graph.proofs.Drafting.{AllIn, HasKind, all_named_in, few_nodes, few_kinds}
 use Rattle.module_graph.proofs.Whole.{length_named}
 
 -- numbers that rise from a bound on
@@ -129,6 +129,14 @@ all_edges nodes kinds (e ∷ es) a c = All-cons (IsEdge (length nodes)) (numbere
     (record { source = node_within nodes e.source a.0.source; target = node_within nodes e.target a.0.target; some_cost = omega (arith, c.0.0); low_cost = omega (arith, c.0.1) })
     (all_edges nodes kinds es a.1 c.1)
 
+kind_within : (kinds : List Kind) (kind : Option Kind) → HasKind kinds kind → IfSome (option_and_then (λ k. position (same_kind k) kinds) kind) (λ m. m < length kinds)
+kind_within kinds None h = tt
+kind_within kinds (Some kind) h = rw (position_found (same_kind kind) kinds h) (found_within (same_kind kind) kinds h)
+
+all_known : (nodes : List (List ℕ)) (kinds : List Kind) (es : List NamedEdge) → AllIn nodes kinds es → All (IsKnown (length kinds)) (map (numbered nodes kinds) es)
+all_known nodes kinds [] a = All-nil (IsKnown (length kinds))
+all_known nodes kinds (e ∷ es) a = All-cons (IsKnown (length kinds)) (numbered nodes kinds e) (map (numbered nodes kinds) es) (kind_within kinds e.kind a.0.kind) (all_known nodes kinds es a.1)
+
 -- the graph of a configuration within the limits
 pub is_graph : (lines : List EdgeLine) (bindings : List Binding) → IsWithinLimits lines → IsGraph (graph_of lines bindings)
 is_graph lines bindings h =
@@ -136,6 +144,9 @@ is_graph lines bindings h =
     record {
       rising = pairs_of (map (numbered (node_names es) (kinds_after [] es)) es) (subst (AllPairs (λ x y. x < y)) (sym (numbered_ordinals (node_names es) (kinds_after [] es) es)) (rises_named lines bindings h.rising));
       edges = all_edges (node_names es) (kinds_after [] es) es (all_named_in es) (costs_named lines bindings h.costs);
+      known = all_known (node_names es) (kinds_after [] es) es (all_named_in es);
+      names_differ = nodes_differ es;
+      kinds_differ = modules_differ es;
       few = omega (arith, few_nodes es, length_named lines bindings, h.count);
     }
 

@@ -1,5 +1,6 @@
 pub mod Edges
 pub mod Numbers
 pub mod Graph
+pub mod Laws
 pub mod Rows
 pub mod Drafts

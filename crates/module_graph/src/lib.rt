@@ -10,9 +10,11 @@ mod build;
 mod draft;
 mod edge;
 mod graph;
+mod laws;
 mod rows;
 #[cfg(test)]
 mod tests;
 
 pub use edge::Edge;
 pub use graph::Graph;
+pub use laws::{edges_are_found, modules_name_charmaps};

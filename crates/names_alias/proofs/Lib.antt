@@ -1,3 +1,4 @@
+pub mod CallerNames
 pub mod AliasLemmas
 pub mod LookupLemmas
 pub mod Scans

@@ -8,6 +8,7 @@ mod builtin;
 mod fault;
 mod form;
 mod front;
+mod laws;
 mod name;
 #[cfg(test)]
 mod tests;
@@ -17,5 +18,6 @@ pub use aliases::Aliases;
 pub use builtin::{builtin_set, internal, is_builtin};
 pub use fault::NameFault;
 pub use form::normal;
+pub use laws::caller_names_are_good;
 pub use name::Name;
 pub use word::Word;

@@ -7,7 +7,7 @@ use arrayvec::ArrayVec;
 use std::marker::Model;
 
 /// A word of 1 to 64 bytes: the name of a module or of a charmap. Words are ordered by their bytes.
-#[derive(PartialEq, Eq, PartialOrd, Ord, Hash, Drop)]
+#[derive(Debug, PartialEq, Eq, PartialOrd, Ord, Hash, Drop)]
 pub struct Word {
     bytes: ArrayVec<u8, 64>,
 }

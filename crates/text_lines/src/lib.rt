@@ -5,10 +5,12 @@
 //! ends with CR LF has the words of one that ends with LF. Nothing is allocated for a line or a word.
 #![tactic(auto)]
 
+mod limits;
 mod line;
 #[cfg(test)]
 mod tests;
 mod word;
 
+pub use limits::LONGEST_TEXT;
 pub use line::next_line;
 pub use word::{first_words, next_word};

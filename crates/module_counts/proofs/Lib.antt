@@ -1,0 +1,9 @@
+pub mod Tracking
+pub mod Starting
+pub mod Storing
+pub mod Tidying
+pub mod Living
+pub mod Stocking
+pub mod Entering
+pub mod Booking
+pub mod Asking

@@ -1,0 +1,52 @@
+use Rattle.std.proofs.Common.{◌≡◌, ◌++◌, ◌∷◌, [], Bool, List, ℕ, cond, length, map, sym, subst, ap, ◌∙◌, refl, arith}
+use Rattle.std.proofs.lemmas.Grind.{common_steps}
+use Rattle.std.proofs.lemmas.List.{length-map}
+use Rattle.std.specs.List.{list_any}
+use Rattle.std.specs.declared.vec.Vec.{Vec}
+use Rattle.std.specs.declared.alloc.Global.{Global}
+use Rattle.runtime_histories.specs.declared.loads.Load.{Load}
+use Rattle.module_counts.specs.declared.stock.Live.{Live}
+use Rattle.runtime_histories.specs.Deeds.{Pair, same_pair, uses, pair_live}
+use Rattle.module_counts.specs.Tracking.{IsTracking}
+use Rattle.runtime_histories.specs.Settings.{modules_of}
+use Rattle.module_counts.specs.Stocks.{seat, seated, lists}
+use Rattle.runtime_histories.specs.Entries.{deeds}
+use Rattle.module_counts.specs.Counting.{pair_shown}
+use Rattle.runtime_histories.proofs.Legality.{length-deeds}
+use Rattle.module_counts.proofs.Living.{any_live}
+use Rattle.module_counts.proofs.Stocking.{open_room, open_places, stock_opens}
+use Rattle.module_counts.proofs.stock.Stock.open.Goals as goal
+
+pub place_all-requires-clause-same : goal.place_all-requires-clause-same
+place_all-requires-clause-same c =
+    let can = c.requires.can in let v = can.0 in
+    let a = open_places c.args.graph.now c.args.self.now.pages (deeds c.args.journal.now) v (lists c.args.places.items) can.2 in
+    let b : length (lists c.args.places.items) ≡ length c.args.places.items = length-map c.args.places.items (λ (x : Vec ℕ Global). x.items) in
+    let d : length v.loads ≡ length c.args.found.loads.now = ap length can.1.loads in
+    grind (arith, common_steps)
+
+pub place_all-requires-clause-room : goal.place_all-requires-clause-room
+place_all-requires-clause-room c =
+    let can = c.requires.can in let v = can.0 in
+    let a = open_room c.args.graph.now c.args.self.now (deeds c.args.journal.now) v (lists c.args.places.items) c.requires.stock can.2 in
+    let d : length v.loads ≡ length c.args.found.loads.now = ap length can.1.loads in
+    grind (arith, common_steps)
+
+pub returns-clause-stock : goal.returns-clause-stock
+returns-clause-stock c = λ v is can.
+    let g = c.args.graph.now in let s = c.args.self.now in let log = deeds c.args.journal.now in let h = c.requires.stock in
+    let p : Pair = record { generation = 0; from = c.args.found.from.now; to = c.args.found.to.now } in
+    let same : p ≡ v.pair = (λ i. record { generation = sym is.generation i; from = sym is.from i; to = sym is.to i }) in
+    let live : c.is_pair_live-is_live.result ≡ pair_live log v.pair =
+    c.is_pair_live-is_live.ensures ∙ (ap (list_any (λ (x : Live). same_pair (pair_shown x) p)) (c.as_slice.ensures.value ∙ h.live_is) ∙ (any_live log p ∙ ap (pair_live log) same)) in
+    let ms : modules_of g.edges c.args.found.chain.now ≡ v.modules = ap (modules_of g.edges) (sym is.ordinals) ∙ sym can.steps in
+    let number : length c.args.journal.now ≡ length log = sym (length-deeds c.args.journal.now) in
+    stock_opens g s _ log c.args.caller (length c.args.journal.now) v (lists c.args.places.items) c.place_all.new.placed.items h can
+    (λ ks t. subst (λ (b : Bool). IsTracking c.start_pair.new.ages (ks ++ cond b [] (map uses v.modules))) live
+    (subst (λ (z : List ℕ). IsTracking c.start_pair.new.ages (ks ++ cond c.is_pair_live-is_live.result [] (map uses z))) ms (c.start_pair.ensures.tracks ks t)))
+    c.start_pair.ensures.more c.start_pair.ensures.clock c.start_pair.ensures.stays
+    number
+    (c.push_within.ensures.items ∙ (λ i. s.live.items ++ record { number = length c.args.journal.now; caller = c.args.caller; generation = sym is.generation i; from = (c.copied.ensures ∙ sym is.from) i; to = (c.copied-2.ensures ∙ sym is.to) i } ∷ []))
+    (c.place_all.ensures.seats ∙ ap (λ (z : List Load). map seat s.placed.items ++ seated (map (λ (l : Load). l.«module») z) (lists c.args.places.items)) (sym is.loads))
+    c.keep_resident.ensures.items refl
+    (let a = c.place_all.ensures.room in let b = c.keep_resident.ensures.room in omega arith)

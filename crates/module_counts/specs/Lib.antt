@@ -1,0 +1,6 @@
+pub mod Tracking
+pub mod Stocks
+pub mod Admitting
+pub mod Successes
+pub mod Counting
+pub mod Inside

@@ -1,0 +1,9 @@
+pub mod Faults
+pub mod Shelves
+pub mod Moments
+pub mod Takes
+pub mod Fetches
+pub mod Puts
+pub mod Sends
+pub mod FaultPlans
+pub mod Stored

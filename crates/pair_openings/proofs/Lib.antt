@@ -1,0 +1,4 @@
+pub mod Cutting
+pub mod Loading
+pub mod Deciding
+pub mod Answering

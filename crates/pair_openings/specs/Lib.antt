@@ -1,0 +1,5 @@
+pub mod Answers
+pub mod Asking
+pub mod Cuts
+pub mod Loading
+pub mod Plans

@@ -1,0 +1,13 @@
+pub mod Deeds
+pub mod Residence
+pub mod Places
+pub mod Pins
+pub mod Entries
+pub mod Settings
+pub mod Charmaps
+pub mod Legal
+pub mod Fetches
+pub mod PinLaw
+pub mod Fair
+pub mod Sound
+pub mod Examples
