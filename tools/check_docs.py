@@ -54,7 +54,7 @@ def definitions():
             if not os.path.exists(f"{TOP}/{it}"):
                 yield f"docs/DEFINITIONS.md: there is no {it}"
         for name in re.findall(r"`(\w+)`", cells[0]):
-            if not re.search(rf"(?m)^(abbrev|unfoldable|pub|record)( pub| record)? {name}\b", known):
+            if not re.search(rf"(?m)^ *(abbrev|unfoldable|pub|record)( pub| record)? {name}\b", known):
                 yield f"docs/DEFINITIONS.md: {name} isn't defined in {' '.join(files)}"
 
 
