@@ -1,0 +1,93 @@
+//! A set of characters that a chain reads and writes.
+
+use code_table::Lookup;
+use ascii_lanes::Lanes;
+use step_unicode::{State, Unit, Wrote};
+
+/// The bytes that sixteen points may take, read or written.
+pub const BLOCK: usize = 64;
+
+/// The units of sixteen points below 80 hex at the front of an input: the points, and how many bytes
+/// the units take.
+#[derive(Clone, Copy)]
+pub struct Block {
+    pub lanes: Lanes,
+    pub used: usize,
+}
+
+/// A set of characters: one type for each, so that a loop is made for each pair of them.
+pub trait Charset {
+    ghost use Rattle.std.specs.Prelude.{◌≡◌, ◌+◌, ◌<◌, ◌≤◌, length, IfSome, MatchOption};
+    ghost use Rattle.ascii_lanes.specs.Plain.{ArePlain};
+    ghost use Rattle.code_table.specs.HandsBack.{HandsBack};
+    ghost use Rattle.step_unicode.specs.Answers.{IsAnswer, IsWrote};
+    ghost use Rattle.chain_steps.specs.declared.recipe.Set.{Set};
+    ghost use Rattle.chain_steps.specs.Blocks.{IsBlock, IsBlockPut};
+    ghost use Rattle.chain_steps.specs.declared.charset.TheConstants.{BLOCK};
+    ghost use Rattle.chain_steps.specs.Sets.{IsUnitOf, IsSpellableIn, spelling_in, IsStateIn, IsInRange};
+
+    /// The set that it is.
+    ghost set: { Self → Set };
+
+    /// The unit that the input begins with.
+    fn read<T: Lookup>(&self, tables: &mut T, state: State, input: &[u8]) -> Unit
+        requires ready { T.ready tables.old }
+        requires range { IsInRange (T.tables tables.old) (set self.now) }
+        requires state { IsStateIn (set self.now) state }
+        requires some { 0 < length input.now }
+        ensures unit { IsAnswer (IsUnitOf (T.tables tables.old) (set self.now)) state input.now result }
+        ensures back { HandsBack T.tables T.ready T.kept tables.old tables.new };
+
+    /// Writes a point behind the first `at` bytes of `output`.
+    fn write<T: Lookup>(
+        &self,
+        tables: &mut T,
+        state: State,
+        point: u32,
+        output: &mut [u8],
+        at: usize,
+    ) -> Wrote
+        requires ready { T.ready tables.old }
+        requires range { IsInRange (T.tables tables.old) (set self.now) }
+        requires state { IsStateIn (set self.now) state }
+        requires at { at ≤ length output.old }
+        ensures wrote { let ts = T.tables tables.old in
+            IsWrote (IsSpellableIn ts (set self.now)) (spelling_in ts (set self.now)) state point at output.old output.new result }
+        ensures back { HandsBack T.tables T.ready T.kept tables.old tables.new };
+
+    /// The units of sixteen points below 80 hex at the front of the input, where the set can tell them
+    /// at once.
+    #[inline(always)]
+    fn block<T: Lookup>(&self, tables: &T, state: State, input: &[u8]) -> Option<Block>
+        requires ready { T.ready tables.now }
+        requires range { IsInRange (T.tables tables.now) (set self.now) }
+        requires state { IsStateIn (set self.now) state }
+        requires some { BLOCK ≤ length input.now }
+        ensures { IfSome result (λ b.
+            IsBlock (IsUnitOf (T.tables tables.now) (set self.now)) state input.now b.lanes.points b.used) }
+    {
+        None
+    }
+
+    /// Writes sixteen points below 80 hex behind the first `at` bytes of `output`, where the set can
+    /// write them at once.
+    #[inline(always)]
+    fn put_block<T: Lookup>(
+        &self,
+        tables: &T,
+        state: State,
+        lanes: Lanes,
+        output: &mut [u8],
+        at: usize,
+    ) -> Option<usize>
+        requires ready { T.ready tables.now }
+        requires range { IsInRange (T.tables tables.now) (set self.now) }
+        requires state { IsStateIn (set self.now) state }
+        requires plain { ArePlain lanes.points }
+        requires room { at + BLOCK ≤ length output.old }
+        ensures { let ts = T.tables tables.now in MatchOption result (output.new ≡ output.old)
+            (λ n. IsBlockPut (IsSpellableIn ts (set self.now)) (spelling_in ts (set self.now)) state lanes.points at output.old output.new n) }
+    {
+        None
+    }
+}

@@ -1,0 +1,122 @@
+//! UTF-16 in its three forms as sets of a chain.
+
+ghost use Rattle.step_unicode.specs.declared.set.Uni.TheVariants.{Utf16, Utf16Le, Utf16Be};
+ghost use Rattle.chain_steps.specs.declared.recipe.Set.TheVariants.{Unicode};
+
+use crate::charset::{Block, Charset};
+use code_table::Lookup;
+use ascii_lanes::{Lanes, load_high_first, load_low_first, put_high_first, put_low_first};
+use step_unicode::{State, Unit, Wrote};
+
+/// UTF-16 with a mark.
+#[derive(Clone, Copy)]
+pub struct Utf16;
+
+impl Charset for Utf16 {
+    ghost set = { λ _. Unicode Utf16 };
+
+    #[inline(always)]
+    fn read<T: Lookup>(&self, _tables: &mut T, state: State, input: &[u8]) -> Unit {
+        step_unicode::utf16::read(state, input)
+    }
+
+    #[inline(always)]
+    fn write<T: Lookup>(
+        &self,
+        _tables: &mut T,
+        state: State,
+        point: u32,
+        output: &mut [u8],
+        at: usize,
+    ) -> Wrote {
+        step_unicode::utf16::write(state, point, output, at)
+    }
+}
+
+/// UTF-16, low bytes first.
+#[derive(Clone, Copy)]
+pub struct Utf16Le;
+
+impl Charset for Utf16Le {
+    ghost set = { λ _. Unicode Utf16Le };
+
+    #[inline(always)]
+    fn read<T: Lookup>(&self, _tables: &mut T, state: State, input: &[u8]) -> Unit {
+        step_unicode::utf16::read_little(state, input)
+    }
+
+    #[inline(always)]
+    fn write<T: Lookup>(
+        &self,
+        _tables: &mut T,
+        state: State,
+        point: u32,
+        output: &mut [u8],
+        at: usize,
+    ) -> Wrote {
+        step_unicode::utf16::write_little(state, point, output, at)
+    }
+
+    #[inline(always)]
+    fn block<T: Lookup>(&self, _tables: &T, _state: State, input: &[u8]) -> Option<Block> {
+        let lanes = load_low_first(input)?;
+        Some(Block { lanes, used: 32 })
+    }
+
+    #[inline(always)]
+    fn put_block<T: Lookup>(
+        &self,
+        _tables: &T,
+        _state: State,
+        lanes: Lanes,
+        output: &mut [u8],
+        at: usize,
+    ) -> Option<usize> {
+        put_low_first(lanes, output, at);
+        Some(32)
+    }
+}
+
+/// UTF-16, high bytes first.
+#[derive(Clone, Copy)]
+pub struct Utf16Be;
+
+impl Charset for Utf16Be {
+    ghost set = { λ _. Unicode Utf16Be };
+
+    #[inline(always)]
+    fn read<T: Lookup>(&self, _tables: &mut T, state: State, input: &[u8]) -> Unit {
+        step_unicode::utf16::read_big(state, input)
+    }
+
+    #[inline(always)]
+    fn write<T: Lookup>(
+        &self,
+        _tables: &mut T,
+        state: State,
+        point: u32,
+        output: &mut [u8],
+        at: usize,
+    ) -> Wrote {
+        step_unicode::utf16::write_big(state, point, output, at)
+    }
+
+    #[inline(always)]
+    fn block<T: Lookup>(&self, _tables: &T, _state: State, input: &[u8]) -> Option<Block> {
+        let lanes = load_high_first(input)?;
+        Some(Block { lanes, used: 32 })
+    }
+
+    #[inline(always)]
+    fn put_block<T: Lookup>(
+        &self,
+        _tables: &T,
+        _state: State,
+        lanes: Lanes,
+        output: &mut [u8],
+        at: usize,
+    ) -> Option<usize> {
+        put_high_first(lanes, output, at);
+        Some(32)
+    }
+}
