@@ -1,7 +1,7 @@
 //! A set of characters that a chain reads and writes.
 
-use code_table::Lookup;
 use ascii_lanes::Lanes;
+use code_table::Lookup;
 use step_unicode::{State, Unit, Wrote};
 
 /// The bytes that sixteen points may take, read or written.
