@@ -4,8 +4,8 @@ ghost use Rattle.step_unicode.specs.declared.set.Uni.TheVariants.{Ascii};
 ghost use Rattle.chain_steps.specs.declared.recipe.Set.TheVariants.{Unicode};
 
 use crate::charset::{Block, Charset};
-use code_table::Lookup;
 use ascii_lanes::{Lanes, load_plain, put_plain};
+use code_table::Lookup;
 use step_unicode::{State, Unit, Wrote};
 
 /// ASCII.

@@ -1,7 +1,7 @@
 //! A set of characters that a chain reads and writes.
 
-use code_table::Lookup;
 use ascii_lanes::Lanes;
+use code_table::Lookup;
 use step_unicode::{State, Unit, Wrote};
 
 /// The bytes that sixteen points may take, read or written.
@@ -35,7 +35,8 @@ pub trait Charset {
         requires range { IsInRange (T.tables tables.old) (set self.now) }
         requires state { IsStateIn (set self.now) state }
         requires some { 0 < length input.now }
-        ensures unit { IsAnswer (IsUnitOf (T.tables tables.old) (set self.now)) state input.now result }
+        ensures unit { IsAnswer (IsUnitOf (T.tables tables.old) (set self.now)) state
+            input.now result }
         ensures back { HandsBack T.tables T.ready T.kept tables.old tables.new };
 
     /// Writes a point behind the first `at` bytes of `output`.
@@ -52,7 +53,8 @@ pub trait Charset {
         requires state { IsStateIn (set self.now) state }
         requires at { at ≤ length output.old }
         ensures wrote { let ts = T.tables tables.old in
-            IsWrote (IsSpellableIn ts (set self.now)) (spelling_in ts (set self.now)) state point at output.old output.new result }
+            IsWrote (IsSpellableIn ts (set self.now)) (spelling_in ts (set self.now))
+            state point at output.old output.new result }
         ensures back { HandsBack T.tables T.ready T.kept tables.old tables.new };
 
     /// The units of sixteen points below 80 hex at the front of the input, where the set can tell them
@@ -64,7 +66,8 @@ pub trait Charset {
         requires state { IsStateIn (set self.now) state }
         requires some { BLOCK ≤ length input.now }
         ensures { IfSome result (λ b.
-            IsBlock (IsUnitOf (T.tables tables.now) (set self.now)) state input.now b.lanes.points b.used) }
+            IsBlock (IsUnitOf (T.tables tables.now) (set self.now)) state
+            input.now b.lanes.points b.used) }
     {
         None
     }
@@ -86,7 +89,8 @@ pub trait Charset {
         requires plain { ArePlain lanes.points }
         requires room { at + BLOCK ≤ length output.old }
         ensures { let ts = T.tables tables.now in MatchOption result (output.new ≡ output.old)
-            (λ n. IsBlockPut (IsSpellableIn ts (set self.now)) (spelling_in ts (set self.now)) state lanes.points at output.old output.new n) }
+            (λ n. IsBlockPut (IsSpellableIn ts (set self.now)) (spelling_in ts (set self.now))
+            state lanes.points at output.old output.new n) }
     {
         None
     }

@@ -4,8 +4,8 @@ ghost use Rattle.step_unicode.specs.declared.set.Uni.TheVariants.{Utf16, Utf16Le
 ghost use Rattle.chain_steps.specs.declared.recipe.Set.TheVariants.{Unicode};
 
 use crate::charset::{Block, Charset};
-use code_table::Lookup;
 use ascii_lanes::{Lanes, load_high_first, load_low_first, put_high_first, put_low_first};
+use code_table::Lookup;
 use step_unicode::{State, Unit, Wrote};
 
 /// UTF-16 with a mark.

@@ -1,5 +1,5 @@
 -- A unit of ISO-2022-JP, and its return sequence, has at most eight bytes.
-use Rattle.std.proofs.Common.{ℕ, ◌≤◌, List, length, Option, inl, inr, arith}
+use Rattle.std.proofs.Common.{ℕ, ◌≤◌, List, length, inl, inr, arith}
 use Rattle.code_pairs.specs.Tables.{Table, IsWellFormed}
 use Rattle.unit_relations.specs.Units.{AreShort}
 use Rattle.step_unicode.specs.declared.set.State.{State}

@@ -2,7 +2,7 @@ use Rattle.std.proofs.Common.{Some, sym, subst}
 use Rattle.code_pairs.specs.Tables.{Tables}
 use Rattle.chain_steps.specs.Chains.{chain, CanRun}
 use Rattle.chain_steps.specs.Runs.{IsStep}
-use Rattle.chain_steps.proofs.Calls.{run_more, run_place, window_run, window_stop, step_run, step_after}
+use Rattle.chain_steps.proofs.Calls.{run_more, window_run, window_stop, step_run, step_after}
 use Rattle.chain_steps.proofs.engine.go_on.Goals as goal
 
 pub units-stop-requires-clause-call : goal.units-stop-requires-clause-call
@@ -39,9 +39,10 @@ returns-then-is_final-clause-step g c =
     let b = c.units-stop.new in
     let front = c.window-front.ensures.front in
     let step : IsStep K w a.new.output b.output a.result b.reached (Some v) = c.in-Some.ensures.step in
-    let run = window_run K x w a.new.output b.output a.result b.reached front step.0 in
-    (run_more K join x c.args.output.now a.new.output b.output c.args.reached.now a.result b.reached a.ensures run,
-     window_stop K x w b.output b.reached v step.0.within front (c.is_final.ensures c.if-is_final.true) step.1)
+    let run = window_run K x w a.new.output b.output a.result b.reached front step.0 in (
+      run_more K join x c.args.output.now a.new.output b.output c.args.reached.now a.result b.reached a.ensures run,
+      window_stop K x w b.output b.reached v step.0.within front (c.is_final.ensures c.if-is_final.true) step.1,
+    )
 
 pub returns-clause-step : goal.returns-clause-step
 returns-clause-step g c =

@@ -1,4 +1,4 @@
-use Rattle.std.proofs.Common.{◌<◌, length, arith}
+use Rattle.std.proofs.Common.{arith}
 use Rattle.code_pairs.specs.Tables.{Tables}
 use Rattle.chain_steps.specs.Chains.{chain}
 use Rattle.chain_steps.proofs.Calls.{run_none}

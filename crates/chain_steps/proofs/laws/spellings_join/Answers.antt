@@ -1,4 +1,3 @@
-use Rattle.std.proofs.Common.{◌≤◌, length, arith}
 use Rattle.unit_relations.specs.Spellings.{IsShort}
 use Rattle.chain_steps.proofs.SetLaws.{of_spellings, spellings_joined, returns_short}
 use Rattle.chain_steps.proofs.laws.spellings_join.Goals as goal
