@@ -2,3 +2,4 @@ pub mod Cutting
 pub mod Loading
 pub mod Deciding
 pub mod Answering
+pub mod Following

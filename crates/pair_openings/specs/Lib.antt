@@ -3,3 +3,4 @@ pub mod Asking
 pub mod Cuts
 pub mod Loading
 pub mod Plans
+pub mod Entered

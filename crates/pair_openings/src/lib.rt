@@ -3,6 +3,7 @@
 #![tactic(auto)]
 
 mod answer;
+mod enter;
 mod loads;
 mod names;
 mod parts;
@@ -10,6 +11,7 @@ mod planning;
 mod search;
 
 pub use answer::decide;
+pub use enter::{enter_opening, enter_refusal};
 pub use loads::loads_of;
 pub use names::asked;
 pub use parts::{cut, pages_needed};
