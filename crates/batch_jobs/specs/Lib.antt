@@ -1,0 +1,5 @@
+pub mod Jobs
+pub mod Reading
+pub mod Refusals
+pub mod Reports
+pub mod Journals
