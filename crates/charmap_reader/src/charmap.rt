@@ -9,14 +9,8 @@ ghost use Rattle.charmap_reader.specs.Scan.{Fails};
 use crate::fault::{MapFault, MapKind, ReadFault};
 use crate::header::read_header;
 use crate::mapping::read_mapping;
-use code_pairs::Pair;
+use code_pairs::Charmap;
 use std::alloc::Global;
-
-/// The pairs of a charmap text in the order of the text, each range as the list of its members.
-#[derive(Drop)]
-pub struct Charmap {
-    pub pairs: Vec<Pair>,
-}
 
 /// A fault of a text as a whole.
 fn whole_fault(kind: MapKind) -> ReadFault

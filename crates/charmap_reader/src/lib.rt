@@ -14,6 +14,6 @@ mod signs;
 #[cfg(test)]
 mod tests;
 
-pub use charmap::{Charmap, read_charmap};
-pub use code_pairs::{Code, Pair};
+pub use charmap::read_charmap;
+pub use code_pairs::{Charmap, Code, Pair};
 pub use fault::{MapFault, MapKind, ReadFault};

@@ -1,17 +1,18 @@
 -- A job that was done and whose report was sent is a run.
 use Rattle.std.proofs.Common.{◌≡◌, ℕ, List, Some, String, subst}
 use Rattle.std.specs.declared.alloc.Global.{Global}
-use Rattle.batch_outside.specs.Faults.{Rose}
-use Rattle.batch_outside.specs.Sends.{Sends}
-use Rattle.batch_outside.specs.declared.sinks.Sent.{Sent}
-use Rattle.batch_outside.specs.declared.sinks.Sent.TheVariants as sent
+use Rattle.outside.specs.Faults.{Rose}
+use Rattle.outside.specs.Moments.{Outside, Written}
+use Rattle.outside.specs.Sends.{Sends}
+use Rattle.outside.specs.declared.sinks.Sent.{Sent}
+use Rattle.outside.specs.declared.sinks.Sent.TheVariants as sent
 use Rattle.iconv_batch.specs.declared.words.Sets.{Sets}
 use Rattle.iconv_batch.specs.declared.job.Ending.{Ending}
 use Rattle.iconv_batch.specs.declared.job.Outcome.{Outcome}
 use Rattle.iconv_batch.specs.Words.{word, asked}
-use Rattle.iconv_batch.specs.Jobs.{Outside, EndsAs}
+use Rattle.iconv_batch.specs.Jobs.{EndsAs}
 use Rattle.iconv_batch.specs.Reports.{report_of}
-use Rattle.iconv_batch.specs.Runs.{Written, RanJob}
+use Rattle.iconv_batch.specs.Runs.{RanJob}
 
 -- the job of the words, and its report
 pub ran_job : (old new : Outside) (before after : Written) (words : List (String Global)) (answer : Sent) (Ends : Outcome → Type 0)

@@ -1,9 +1,10 @@
 -- A job whose input was converted ends as its bytes were put.
 use Rattle.std.proofs.Common.{◌≡◌, ℕ, List, length, Option, inl, inr, refl, sym, subst}
-use Rattle.batch_outside.specs.Faults.{Rose}
-use Rattle.batch_outside.specs.Shelves.{Shelf}
-use Rattle.batch_outside.specs.Puts.{PutsWhereTold}
-use Rattle.batch_outside.specs.declared.file_sets.Put.TheVariants as put
+use Rattle.outside.specs.Faults.{Rose}
+use Rattle.outside.specs.Moments.{Outside}
+use Rattle.outside.specs.Shelves.{Shelf}
+use Rattle.outside.specs.Puts.{PutsWhereTold}
+use Rattle.outside.specs.declared.file_sets.Put.TheVariants as put
 use Rattle.step_buffers.specs.Ends.{verdict_at, offset_at}
 use Rattle.step_buffers.specs.declared.answers.Finish.{Finish}
 use Rattle.step_buffers.specs.declared.answers.Finish.TheVariants.{Done, Illegal, Incomplete}
@@ -11,7 +12,7 @@ use Rattle.step_buffers.specs.declared.answers.Whole.{Whole}
 use Rattle.iconv_batch.specs.declared.words.Sets.{Sets}
 use Rattle.iconv_batch.specs.declared.job.Ending.{Ending}
 use Rattle.iconv_batch.specs.declared.job.Work.TheVariants.{Converted}
-use Rattle.iconv_batch.specs.Jobs.{Outside, IsInput, Converts, Works, Settles, EndsAs, ending_of}
+use Rattle.iconv_batch.specs.Jobs.{IsInput, Converts, Works, Settles, EndsAs, ending_of}
 
 put_all : (old new : Outside) (sets : Sets) (input output : List ℕ) (x w : List ℕ) (read : ℕ) (f : Finish) →
     IsInput old input x → read ≡ length x → Converts sets x w (verdict_at f) (offset_at f (length x)) →

@@ -4,15 +4,19 @@ use Rattle.unit_relations.specs.declared.verdict.Verdict.{Verdict}
 use Rattle.unit_relations.specs.declared.verdict.Verdict.TheVariants as verdict
 use Rattle.chain_steps.specs.declared.recipe.Recipe.{Recipe}
 use Rattle.chain_steps.specs.declared.recipe.Set.TheVariants.{Unicode}
-use Rattle.chain_steps.specs.Chains.{ChainMeansWhole}
+use Rattle.unit_relations.specs.Meaning.{MeansWhole}
+use Rattle.chain_steps.specs.Sets.{return_of}
+use Rattle.chain_steps.specs.Chains.{chain, initial}
 use Rattle.step_buffers.specs.Ends.{verdict_at, offset_at}
 use Rattle.step_buffers.specs.declared.answers.Finish.{Finish}
 use Rattle.step_buffers.specs.declared.answers.Finish.TheVariants as finish
 use Rattle.step_buffers.specs.declared.answers.Whole.{Whole}
-use Rattle.batch_outside.specs.Faults.{Rose}
-use Rattle.batch_outside.specs.Shelves.{Shelf, content_of}
-use Rattle.batch_outside.specs.Puts.{PutsWhereTold}
-use Rattle.batch_outside.specs.declared.file_sets.Put.TheVariants as put
+use Rattle.text_lines.specs.Limits.{longest_text}
+use Rattle.outside.specs.Faults.{Rose}
+use Rattle.outside.specs.Moments.{Outside}
+use Rattle.outside.specs.Shelves.{content_of}
+use Rattle.outside.specs.Puts.{PutsWhereTold}
+use Rattle.outside.specs.declared.file_sets.Put.TheVariants as put
 use Rattle.iconv_batch.specs.declared.words.Sets.{Sets}
 use Rattle.iconv_batch.specs.declared.job.Work.{Work}
 use Rattle.iconv_batch.specs.declared.job.Work.TheVariants as work
@@ -21,39 +25,26 @@ use Rattle.iconv_batch.specs.declared.job.Outcome.{Outcome}
 use Rattle.iconv_batch.specs.declared.job.Outcome.TheVariants.{Good, Illegal, Incomplete, Absent, TooLarge, ReadFault, WriteFault}
 use Rattle.iconv_batch.specs.Tables.{no_tables}
 
--- the most bytes that an input may have
-abbrev pub limit : ℕ
-limit = 16777216
-
 -- the chain from one set to another, without a joint
 abbrev pub recipe_of : Sets → Recipe
 recipe_of sets = record { reader = Unicode sets.from; joints = []; writer = Unicode sets.to }
 
 -- the bytes w are the conversion of all of x that the verdict and the place allow
 abbrev pub Converts : Sets → List ℕ → List ℕ → Verdict → ℕ → Type 0
-Converts sets x w v at = ChainMeansWhole no_tables (recipe_of sets) x w v at
-
--- the files at a moment: what they hold, where told, and how often a take and a put have failed
-pub record Outside : Type 0 where
-  pub told : Option Shelf
-  pub takes : ℕ
-  pub puts : ℕ
-
--- the files, by what they hold and their counts
-abbrev pub outside_of : Option Shelf → ℕ → ℕ → Outside
-outside_of told takes puts = record { told = told; takes = takes; puts = puts }
+Converts sets x w v at = MeansWhole (chain no_tables (recipe_of sets)) (return_of (Unicode sets.to)) initial x
+    (record { written = w; consumed = at; verdict = v })
 
 -- the input is x: what the name holds, where that is told
 pub record IsInput (files : Outside) (name x : List ℕ) : Type 0 where
   pub held : IfSome files.told (λ shelf. content_of shelf name ≡ Some x)
-  pub short : length x ≤ limit
+  pub short : length x ≤ longest_text
 
 -- what a job's work gives before its bytes are put
 abbrev pub Works : Outside → Outside → Sets → List ℕ → Work → Type 0
 Works old new sets input work.Absent =
     (new.told ≡ old.told) × IfSome old.told (λ shelf. content_of shelf input ≡ None)
 Works old new sets input work.TooLarge =
-    (new.told ≡ old.told) × IfSome old.told (λ shelf. IsSomeAnd (content_of shelf input) (λ x. limit < length x))
+    (new.told ≡ old.told) × IfSome old.told (λ shelf. IsSomeAnd (content_of shelf input) (λ x. longest_text < length x))
 Works old new sets input work.ReadFault = (new.told ≡ old.told) × Rose old.takes new.takes
 Works old new sets input (work.Converted whole read) = (new.told ≡ old.told)
     × (x : List ℕ) × IsInput old input x × (read ≡ length x)
@@ -94,14 +85,9 @@ EndsAs old new sets input output read written (Incomplete at) =
 EndsAs old new sets input output read written Absent = (new.told ≡ old.told) × (read ≡ 0) × (written ≡ 0)
     × IfSome old.told (λ shelf. content_of shelf input ≡ None)
 EndsAs old new sets input output read written TooLarge = (new.told ≡ old.told) × (read ≡ 0) × (written ≡ 0)
-    × IfSome old.told (λ shelf. IsSomeAnd (content_of shelf input) (λ x. limit < length x))
+    × IfSome old.told (λ shelf. IsSomeAnd (content_of shelf input) (λ x. longest_text < length x))
 EndsAs old new sets input output read written ReadFault = (new.told ≡ old.told) × (read ≡ 0) × (written ≡ 0)
     × Rose old.takes new.takes
 EndsAs old new sets input output read written WriteFault = (written ≡ 0) × Rose old.puts new.puts
     × (x : List ℕ) × (w : List ℕ) × (v : Verdict) × (at : ℕ) × IsInput old input x × (read ≡ length x) × Converts sets x w v at
     × PutsWhereTold old.told new.told output w put.Failed
-
--- the counts of faults have not fallen
-pub record CountsRise (old new : Outside) : Type 0 where
-  pub takes : old.takes ≤ new.takes
-  pub puts : old.puts ≤ new.puts

@@ -1,5 +1,5 @@
 -- The report of one job.
-use Rattle.std.specs.Prelude.{ℕ, ◌-◌, List, ◌++◌, codes}
+use Rattle.std.specs.Prelude.{ℕ, ◌-◌, List, ◌++◌, codes, Bool, true, false, if◌then◌else◌}
 use Rattle.std.specs.Fmt.{decimal}
 use Rattle.iconv_batch.specs.declared.job.Outcome.{Outcome}
 use Rattle.iconv_batch.specs.declared.job.Outcome.TheVariants.{Good, Illegal, Incomplete, Absent, TooLarge, ReadFault, WriteFault}
@@ -14,15 +14,19 @@ text_of TooLarge = codes "too large"
 text_of ReadFault = codes "read fault"
 text_of WriteFault = codes "write fault"
 
+-- whether a job was converted whole and its output put
+abbrev pub is_good : Outcome → Bool
+is_good (Good written) = true
+is_good (Illegal at) = false
+is_good (Incomplete at) = false
+is_good Absent = false
+is_good TooLarge = false
+is_good ReadFault = false
+is_good WriteFault = false
+
 -- how many outcomes are good, of one
 abbrev pub good_count : Outcome → ℕ
-good_count (Good written) = 1
-good_count (Illegal at) = 0
-good_count (Incomplete at) = 0
-good_count Absent = 0
-good_count TooLarge = 0
-good_count ReadFault = 0
-good_count WriteFault = 0
+good_count outcome = if is_good outcome then 1 else 0
 
 -- the job's line and the summary line
 abbrev pub report_lines : List ℕ → ℕ → ℕ → ℕ → ℕ → List ℕ

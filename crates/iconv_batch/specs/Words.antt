@@ -6,6 +6,7 @@ use Rattle.names_alias.specs.NameForm.{normal_of}
 use Rattle.names_alias.specs.declared.fault.NameFault.{NameFault}
 use Rattle.step_unicode.specs.declared.set.Uni.{Uni}
 use Rattle.step_unicode.specs.declared.set.Uni.TheVariants.{Ascii, Utf8, Utf16, Utf16Le, Utf16Be, Ucs4}
+use Rattle.text_lines.specs.Limits.{longest_text}
 use Rattle.iconv_batch.specs.declared.words.Sets.{Sets}
 
 -- the bytes of the word at a place, from 0
@@ -28,13 +29,9 @@ abbrev pub set_where_normal : Result (List ℕ) NameFault → Option Uni
 set_where_normal (Ok name) = set_of name
 set_where_normal (Err fault) = None
 
--- the most bytes that a name may have
-abbrev pub longest_name : ℕ
-longest_name = 16777216
-
 -- the set that a word names, in any spelling of its normal form
 abbrev pub set_named : List ℕ → Option Uni
-set_named text = if nat_lt longest_name (length text) then None else set_where_normal (normal_of text)
+set_named text = if nat_lt longest_text (length text) then None else set_where_normal (normal_of text)
 
 -- two sets, where there are both
 abbrev pub both : Option Uni → Option Uni → Option Sets

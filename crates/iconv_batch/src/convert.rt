@@ -1,10 +1,11 @@
 //! The conversion of a whole input, piece by piece.
 
 ghost use Rattle.std.specs.Prelude.{◌≡◌, ◌+◌, ◌≤◌, ◌++◌, ℕ, List, [], length, IfOk};
-ghost use Rattle.chain_steps.specs.Chains.{CanRun};
+ghost use Rattle.code_table.specs.HandsBack.{HandsBack};
+ghost use Rattle.text_lines.specs.Limits.{longest_text};
 ghost use Rattle.step_buffers.specs.Stands.{StandsFor};
 ghost use Rattle.step_buffers.specs.Ends.{verdict_at, offset_at};
-ghost use Rattle.iconv_batch.specs.Jobs.{Converts, limit, recipe_of};
+ghost use Rattle.iconv_batch.specs.Jobs.{Converts};
 
 use crate::words::Sets;
 use chain_steps::{Bound, Converter, Joints, Recipe, Runner, Set};
@@ -19,14 +20,13 @@ fn feed_all<C: Converter>(
     input: &[u8],
 ) -> Result<(), AllocError>
     requires ready { C.ready converter.old }
-    requires range { CanRun (C.tables converter.old) (C.machine converter.old).recipe }
     requires new { session.old.taken ≡ 0 }
     requires stands { StandsFor (C.tables converter.old) (C.machine converter.old) session.old [] }
-    requires short { length input.now ≤ limit }
-    ensures stands { IfOk result (λ _. StandsFor (C.tables converter.new) (C.machine converter.new) session.new input.now) }
+    requires short { length input.now ≤ longest_text }
+    ensures stands { IfOk result (λ _.
+        StandsFor (C.tables converter.new) (C.machine converter.new) session.new input.now) }
     ensures recipe { (C.machine converter.new).recipe ≡ (C.machine converter.old).recipe }
-    ensures same { C.tables converter.new ≡ C.tables converter.old }
-    ensures ready { C.ready converter.new }
+    ensures back { HandsBack C.tables C.ready C.kept converter.old converter.new }
 {
     let mut at = 0;
     while at < input.len() {
@@ -39,7 +39,7 @@ fn feed_all<C: Converter>(
 
 /// The conversion of an input.
 pub fn converted(alloc: Global, sets: Sets, input: &[u8]) -> Result<Whole, AllocError>
-    requires { length input.now ≤ limit }
+    requires { length input.now ≤ longest_text }
     ensures { IfOk result (λ whole. Converts sets input.now whole.bytes.items
         (verdict_at whole.finish) (offset_at whole.finish (length input.now))) }
 {

@@ -1,18 +1,16 @@
 //! One job: its input is taken and converted, and its output is put.
 
 ghost use Rattle.std.specs.Prelude.{◌≡◌, ◌≤◌, length, IfOk, OnErr, string_bytes};
-ghost use Rattle.iconv_batch.specs.Jobs.{outside_of, ending_of, Works, Settles, EndsAs};
-ghost use Rattle.iconv_batch.specs.Reports.{report_of};
+ghost use Rattle.iconv_batch.specs.Jobs.{ending_of, Works, Settles, EndsAs};
+ghost use Rattle.iconv_batch.specs.Reports.{is_good, report_of};
 
 use crate::convert::converted;
 use crate::report::report;
 use crate::words::Sets;
-use batch_outside::{Files, Put, Taken};
+use outside::{Files, Put, Taken};
 use std::alloc::{AllocError, Global};
 use step_buffers::{Finish, Whole};
-
-/// The most bytes that an input may have.
-const LIMIT: u32 = 16777216;
+use text_lines::LONGEST_TEXT;
 
 /// What a job's work gives before its bytes are put.
 #[derive(Drop)]
@@ -43,6 +41,18 @@ pub enum Outcome {
     WriteFault,
 }
 
+impl Outcome {
+    /// Whether the job was converted whole and its output put.
+    pub fn is_good(self) -> bool
+        ensures { result ≡ is_good self }
+    {
+        match self {
+            Outcome::Good { .. } => true,
+            _ => false,
+        }
+    }
+}
+
 /// How a job ended, and how many bytes it read and put.
 #[derive(Clone, Copy, Debug, PartialEq, Eq)]
 pub struct Ending {
@@ -65,12 +75,12 @@ fn work_of<F: Files>(
     sets: Sets,
     input: &str,
 ) -> Result<Work, AllocError>
-    ensures ok { IfOk result (λ w. Works (outside_of (F.told files.old) (F.takes files.old) (F.puts files.old))
-        (outside_of (F.told files.new) (F.takes files.new) (F.puts files.new)) sets input.now w) }
-    ensures told { F.told files.new ≡ F.told files.old }
-    ensures puts { F.puts files.new ≡ F.puts files.old }
+    ensures ok { IfOk result (λ w. Works (F.outside files.old)
+        (F.outside files.new) sets input.now w) }
+    ensures told { (F.outside files.new).told ≡ (F.outside files.old).told }
+    ensures puts { (F.outside files.new).puts ≡ (F.outside files.old).puts }
 {
-    let bytes = match files.take(alloc, input, LIMIT) {
+    let bytes = match files.take(alloc, input, LONGEST_TEXT) {
         Taken::Bytes(bytes) => bytes,
         Taken::Absent => return Ok(Work::Absent),
         Taken::TooLarge => return Ok(Work::TooLarge),
@@ -125,10 +135,10 @@ fn settle<F: Files>(
     whole: &Whole,
     read: u64,
 ) -> Result<Told, AllocError>
-    ensures settles { IfOk result (λ told. Settles (outside_of (F.told files.old) (F.takes files.old) (F.puts files.old))
-        (outside_of (F.told files.new) (F.takes files.new) (F.puts files.new)) output.now whole.now read told.end) }
+    ensures settles { IfOk result (λ told. Settles (F.outside files.old)
+        (F.outside files.new) output.now whole.now read told.end) }
     ensures text { IfOk result (λ told. string_bytes told.text ≡ report_of told.end.outcome told.end.read told.end.written) }
-    ensures err { OnErr result (F.told files.new ≡ F.told files.old) }
+    ensures err { OnErr result ((F.outside files.new).told ≡ (F.outside files.old).told) }
 {
     let end = ending_after(whole.finish, read, whole.bytes.len() as u64);
     let text = report(alloc, end)?;
@@ -148,11 +158,11 @@ pub fn do_job<F: Files>(
     input: &str,
     output: &str,
 ) -> Result<Told, AllocError>
-    ensures ends { IfOk result (λ told. EndsAs (outside_of (F.told files.old) (F.takes files.old) (F.puts files.old))
-        (outside_of (F.told files.new) (F.takes files.new) (F.puts files.new)) sets input.now output.now
+    ensures ends { IfOk result (λ told. EndsAs (F.outside files.old)
+        (F.outside files.new) sets input.now output.now
         told.end.read told.end.written told.end.outcome) }
     ensures text { IfOk result (λ told. string_bytes told.text ≡ report_of told.end.outcome told.end.read told.end.written) }
-    ensures err { OnErr result (F.told files.new ≡ F.told files.old) }
+    ensures err { OnErr result ((F.outside files.new).told ≡ (F.outside files.old).told) }
 {
     match work_of(alloc, files, sets, input)? {
         Work::Absent => without_output(alloc, Outcome::Absent, 0),

@@ -1,7 +1,7 @@
 //! What a run writes.
 
 ghost use Rattle.std.specs.Prelude.{◌≡◌, ◌≤◌, IfOk, string_bytes};
-ghost use Rattle.iconv_batch.specs.Reports.{text_of, good_count, report_lines, report_of};
+ghost use Rattle.iconv_batch.specs.Reports.{text_of, report_lines, report_of};
 
 use crate::job::{Ending, Outcome};
 use std::alloc::{AllocError, Global};
@@ -18,17 +18,6 @@ fn text(alloc: Global, outcome: Outcome) -> Result<String, AllocError>
         Outcome::TooLarge => String::from_str(alloc, "too large"),
         Outcome::ReadFault => String::from_str(alloc, "read fault"),
         Outcome::WriteFault => String::from_str(alloc, "write fault"),
-    }
-}
-
-/// How many outcomes are good, of one.
-fn good(outcome: Outcome) -> u32
-    ensures count { result ≡ good_count outcome }
-    ensures one { result ≤ 1 }
-{
-    match outcome {
-        Outcome::Good { .. } => 1,
-        _ => 0,
     }
 }
 
@@ -51,7 +40,7 @@ fn lines(
 pub fn report(alloc: Global, end: Ending) -> Result<String, AllocError>
     ensures { IfOk result (λ text. string_bytes text ≡ report_of end.outcome end.read end.written) }
 {
-    let good = good(end.outcome);
+    let good = if end.outcome.is_good() { 1 } else { 0 };
     let text = text(alloc, end.outcome)?;
     lines(alloc, text.as_str(), good, 1 - good, end.read, end.written)
 }

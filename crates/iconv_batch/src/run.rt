@@ -1,12 +1,12 @@
 //! The whole program, over the files and the sink that it is handed.
 
 ghost use Rattle.std.specs.Prelude.{◌≡◌, ◌≤◌, ◌↔◌, IsTrue};
-ghost use Rattle.iconv_batch.specs.Jobs.{outside_of, CountsRise};
-ghost use Rattle.iconv_batch.specs.Runs.{status_of, written_of, IsGood, Ran};
+ghost use Rattle.outside.specs.declared.sinks.Sent.{Sent};
+ghost use Rattle.iconv_batch.specs.Runs.{status_of, cause_of, line_of, Writes, Ran};
 
-use crate::job::{Outcome, do_job};
+use crate::job::do_job;
 use crate::words::{asked, word_at};
-use batch_outside::{Files, Sent, Sink};
+use outside::{Files, Sent, Sink};
 use std::alloc::Global;
 
 /// What of the output failed.
@@ -38,19 +38,19 @@ pub struct Ended {
     pub cause: Cause,
 }
 
+/// Why a run ends before its job is done.
+#[derive(Clone, Copy, Debug, PartialEq, Eq)]
+pub enum Stop {
+    /// The words ask for nothing.
+    Usage,
+    /// Memory was wanting.
+    Memory,
+}
+
 const USAGE: &str =
     "usage: iconv_batch --modules F --bindings F --charmaps DIR --jobs JOBS [--workers N] [--pages P] [--journal F]\n";
 
 const NO_MEMORY: &str = "out of memory\n";
-
-fn is_good(outcome: Outcome) -> bool
-    ensures { IsTrue result ↔ IsGood outcome }
-{
-    match outcome {
-        Outcome::Good { .. } => true,
-        _ => false,
-    }
-}
 
 fn status(cause: Cause) -> u8
     ensures { result ≡ status_of cause }
@@ -64,6 +64,40 @@ fn status(cause: Cause) -> u8
     }
 }
 
+/// The single line of a run that ends before its job is done.
+fn single_line(stop: Stop) -> &'static str
+    ensures { result.now ≡ line_of stop }
+{
+    match stop {
+        Stop::Usage => USAGE,
+        Stop::Memory => NO_MEMORY,
+    }
+}
+
+fn cause_by(stop: Stop) -> Cause
+    ensures { result ≡ cause_of stop }
+{
+    match stop {
+        Stop::Usage => Cause::Usage,
+        Stop::Memory => Cause::Memory,
+    }
+}
+
+/// Ends a run with the single line of why; a failure of the sink changes nothing.
+pub fn end_with<O: Sink>(stop: Stop, out: &mut O) -> Ended
+    ensures status { result.status ≡ status_of result.cause }
+    ensures cause { result.cause ≡ cause_of stop }
+    ensures line { (answer : Sent) ×
+        Writes (O.written out.old) (O.written out.new) (line_of stop) answer }
+{
+    let _ = out.put(single_line(stop).as_bytes());
+    let cause = cause_by(stop);
+    Ended {
+        status: status(cause),
+        cause,
+    }
+}
+
 /// Converts one file as the words ask, and writes the report.
 pub fn run<R: AllocGlobal, F: Files, O: Sink>(
     rt: &R,
@@ -72,9 +106,9 @@ pub fn run<R: AllocGlobal, F: Files, O: Sink>(
     out: &mut O,
 ) -> Ended
     ensures status { result.status ≡ status_of result.cause }
-    ensures ran { Ran (outside_of (F.told files.old) (F.takes files.old) (F.puts files.old))
-        (outside_of (F.told files.new) (F.takes files.new) (F.puts files.new))
-        (written_of (O.got out.old) (O.faults out.old)) (written_of (O.got out.new) (O.faults out.new))
+    ensures ran { Ran (F.outside files.old)
+        (F.outside files.new)
+        (O.written out.old) (O.written out.new)
         words.now result.cause }
 {
     let cause = run_words(rt.alloc(), words, files, out);
@@ -90,22 +124,22 @@ fn run_words<F: Files, O: Sink>(
     files: &mut F,
     out: &mut O,
 ) -> Cause
-    ensures { Ran (outside_of (F.told files.old) (F.takes files.old) (F.puts files.old))
-        (outside_of (F.told files.new) (F.takes files.new) (F.puts files.new))
-        (written_of (O.got out.old) (O.faults out.old)) (written_of (O.got out.new) (O.faults out.new))
+    ensures { Ran (F.outside files.old)
+        (F.outside files.new)
+        (O.written out.old) (O.written out.new)
         words.now result }
 {
     let Some(sets) = asked(words) else {
-        let _ = out.put(USAGE.as_bytes());
+        let _ = end_with(Stop::Usage, out);
         return Cause::Usage;
     };
     let Ok(told) = do_job(alloc, files, sets, word_at(words, 4), word_at(words, 5)) else {
-        let _ = out.put(NO_MEMORY.as_bytes());
+        let _ = end_with(Stop::Memory, out);
         return Cause::Memory;
     };
     match out.put(told.text.as_bytes()) {
         Sent::Done => {
-            if is_good(told.end.outcome) {
+            if told.end.outcome.is_good() {
                 Cause::Done
             } else {
                 Cause::Jobs

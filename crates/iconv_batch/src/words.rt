@@ -5,9 +5,7 @@ ghost use Rattle.iconv_batch.specs.Words.{word, set_of, set_named, both, asked};
 
 use names_alias::normal;
 use step_unicode::Uni;
-
-/// The most bytes that a name of a set may have.
-const LONGEST_NAME: usize = 16777216;
+use text_lines::LONGEST_TEXT;
 
 /// The set that a job reads, and the set that it writes.
 #[derive(Clone, Copy, Debug, PartialEq, Eq)]
@@ -53,7 +51,7 @@ fn set_of(name: &[u8]) -> Option<Uni>
 fn set_named(text: &[u8]) -> Option<Uni>
     ensures { result ≡ set_named text.now }
 {
-    if LONGEST_NAME < text.len() {
+    if text.len() > LONGEST_TEXT as usize {
         return None;
     }
     match normal(text) {

@@ -28,7 +28,8 @@ impl Model for NotedTexts {
 
 /// Notes a path.
 fn note(asked: &mut Vec<String>, alloc: Global, path: &str) -> Result<(), AllocError>
-    ensures ok { OnOk result (paths_of asked.new.items ≡ paths_of asked.old.items ++ path.now ∷ []) }
+    ensures ok { OnOk result
+        (paths_of asked.new.items ≡ paths_of asked.old.items ++ path.now ∷ []) }
     ensures err { OnErr result (asked.new.items ≡ asked.old.items) }
 {
     asked.push(String::from_str(alloc, path)?)?;

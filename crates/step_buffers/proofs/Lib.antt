@@ -1,4 +1,4 @@
 pub mod Scratch
-pub mod Feeds
-pub mod Ends
 pub mod Bridge
+pub mod Verdicts
+pub mod Streams

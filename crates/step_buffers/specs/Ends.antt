@@ -1,9 +1,10 @@
 -- What the end of a stream tells.
-use Rattle.std.specs.Prelude.{ℕ}
-use Rattle.step_unicode.specs.declared.set.State.TheVariants.{Plain}
+use Rattle.std.specs.Prelude.{ℕ, List}
 use Rattle.unit_relations.specs.declared.verdict.Verdict.{Verdict}
 use Rattle.unit_relations.specs.declared.verdict.Verdict.TheVariants as verdict
+use Rattle.unit_relations.specs.Meaning.{Ending}
 use Rattle.chain_steps.specs.Machine.{Machine}
+use Rattle.chain_steps.specs.Chains.{initial}
 use Rattle.step_buffers.specs.declared.answers.Finish.{Finish}
 use Rattle.step_buffers.specs.declared.answers.Finish.TheVariants.{Done, Illegal, Incomplete}
 
@@ -19,8 +20,14 @@ offset_at Done n = n
 offset_at (Illegal offset) n = offset
 offset_at (Incomplete offset) n = offset
 
--- where an end leaves a converter: in its initial states after a stream that was done, else as it was
+-- what the bytes and the end of a stream of n bytes tell
+abbrev pub ending : List ℕ → Finish → ℕ → Ending
+ending bytes finish n =
+    record { written = bytes; consumed = offset_at finish n; verdict = verdict_at finish }
+
+-- where an end leaves a converter: in its initial states after a stream that was done, else as it
+-- was
 abbrev pub left_by : Finish → Machine → Machine
-left_by Done m = record { recipe = m.recipe; reading = Plain; writing = Plain }
+left_by Done m = record { recipe = m.recipe; states = initial }
 left_by (Illegal offset) m = m
 left_by (Incomplete offset) m = m

@@ -1,10 +1,11 @@
 -- What a session holds.
-use Rattle.std.specs.Prelude.{ℕ, List, [], Bool, true, false}
+use Rattle.std.specs.Prelude.{ℕ, ◌*◌, ◌≤◌, length, List, [], Bool, true, false}
+use Rattle.step_buffers.specs.Limits.{longest_tail, most_each}
 use Rattle.step_buffers.specs.declared.answers.Fed.{Fed}
 use Rattle.step_buffers.specs.declared.answers.Fed.TheVariants.{Going, Stopped}
 
--- what was written, what waits to be converted, how many bytes were converted and taken, and whether
--- the stream was found to be illegal
+-- what was written, what waits to be converted, how many bytes were converted and taken, and
+-- whether the stream was found to be illegal
 pub record Held : Type 0 where
   pub output : List ℕ
   pub tail : List ℕ
@@ -15,6 +16,11 @@ pub record Held : Type 0 where
 -- what is held before the first piece
 abbrev pub nothing_held : Held
 nothing_held = record { output = []; tail = []; offset = 0; taken = 0; stopped = false }
+
+-- little waits, and the output is bounded by what was taken
+pub record IsLittle (h : Held) : Type 0 where
+  pub tail : length h.tail ≤ longest_tail
+  pub output : length h.output ≤ most_each * h.taken
 
 -- Stopped and where, or Going
 abbrev pub answer_from : Bool → ℕ → Fed

@@ -1,16 +1,18 @@
-//! How a piece is taken in, over the parts of a session.
+//! How a piece is taken in.
 
-ghost use Rattle.std.specs.Prelude.{◌≡◌, ◌≢◌, ◌+◌, ◌*◌, ◌≤◌, ◌++◌, List, ℕ, [], length, take, drop};
+ghost use Rattle.std.specs.Prelude.{◌≡◌, ◌+◌, ◌≤◌, ◌++◌, [], length};
 ghost use Rattle.std.specs.Prelude.{vec_len, vec_capacity};
-ghost use Rattle.step_unicode.specs.declared.set.State.TheVariants.{Plain};
-ghost use Rattle.unit_relations.specs.declared.verdict.Verdict.TheVariants.{Illegal};
-ghost use Rattle.chain_steps.specs.Chains.{ChainMeans, CanRun};
+ghost use Rattle.code_table.specs.HandsBack.{HandsBack};
+ghost use Rattle.chain_steps.specs.Chains.{initial};
 ghost use Rattle.chain_steps.specs.Sets.{return_of};
+ghost use Rattle.step_buffers.specs.Limits.{most_each};
 ghost use Rattle.step_buffers.specs.Stands.{stops};
+ghost use Rattle.step_buffers.specs.Steps.{HasRoom, IsTaken};
 
-use crate::limits::{BRIDGE, LONGEST_TAIL, ROOM, TAIL_ROOM};
-use crate::through::{Reached, append_within, convert_through};
-use chain_steps::{Converter, Reset, Verdict};
+use crate::limits::BRIDGE;
+use crate::parts::{Parts, append_within, drop_front};
+use crate::through::{Reached, convert_through};
+use chain_steps::{Converter, Reset, Verdict, illegal_stays, runs_join, spellings_join};
 
 /// Whether a stream can't go on.
 pub fn is_stop(verdict: Verdict) -> bool
@@ -24,140 +26,65 @@ pub fn is_stop(verdict: Verdict) -> bool
     }
 }
 
-/// Drops the first bytes.
-fn drop_front(bytes: &mut Vec<u8>, count: usize)
-    requires { count ≤ vec_len bytes.old }
-    ensures items { bytes.new.items ≡ drop count bytes.old.items }
-    ensures len { vec_len bytes.new + count ≡ vec_len bytes.old }
-    ensures capacity { vec_capacity bytes.old ≤ vec_capacity bytes.new }
-{
-    let len = bytes.len();
-    bytes.as_mut_slice().copy_within(count..len, 0);
-    bytes.truncate(len - count);
-}
-
 /// Takes in a piece where nothing waits: it is converted where it stands, and its rest is kept.
-fn take_piece<C: Converter>(
-    converter: &mut C,
-    scratch: &mut [u8],
-    output: &mut Vec<u8>,
-    tail: &mut Vec<u8>,
-    piece: &[u8],
-) -> Reached
+fn take_piece<C: Converter>(parts: &mut Parts, converter: &mut C, piece: &[u8]) -> Reached
     requires ready { C.ready converter.old }
-    requires range { CanRun (C.tables converter.old) (C.machine converter.old).recipe }
-    requires scratch { ROOM ≤ length scratch.old }
-    requires room { vec_len output.old + ROOM * (length piece.now) ≤ vec_capacity output.old }
-    requires tail { TAIL_ROOM ≤ vec_capacity tail.old }
-    requires empty { tail.old.items ≡ [] }
-    ensures means { let m = C.machine converter.old in let n = C.machine converter.new in
-        (w : List ℕ) × (output.new.items ≡ output.old.items ++ w)
-        × ChainMeans (C.tables converter.old) m.recipe m.reading m.writing piece.now
-        w result.verdict result.consumed n.reading n.writing }
-    ensures room { vec_len output.new ≤ vec_len output.old + ROOM * result.consumed }
-    ensures capacity { vec_capacity output.old ≤ vec_capacity output.new }
-    ensures rest { result.verdict ≢ Illegal → tail.new.items ≡ drop result.consumed piece.now }
-    ensures short { vec_len tail.new ≤ LONGEST_TAIL }
-    ensures tail { TAIL_ROOM ≤ vec_capacity tail.new }
-    ensures within { result.consumed + vec_len tail.new ≤ length piece.now }
-    ensures recipe { (C.machine converter.new).recipe ≡ (C.machine converter.old).recipe }
-    ensures same { C.tables converter.new ≡ C.tables converter.old }
-    ensures ready { C.ready converter.new }
-    ensures kept { C.kept converter.old converter.new }
+    requires room { HasRoom parts.old (length piece.now) }
+    requires empty { parts.old.tail.items ≡ [] }
+    ensures taken { IsTaken (C.tables converter.old) (C.machine converter.old)
+        (C.machine converter.new) parts.old parts.new piece.now result }
+    ensures back { HandsBack C.tables C.ready C.kept converter.old converter.new }
 {
-    let reached = convert_through(converter, piece, scratch, output);
+    let scratch = parts.scratch.as_mut_slice();
+    let reached = convert_through(converter, piece, scratch, &mut parts.output);
     if is_stop(reached.verdict) {
         return reached;
     }
-    append_within(tail, &piece[reached.consumed..]);
+    append_within(&mut parts.tail, &piece[reached.consumed..]);
     reached
 }
 
 /// Takes in a piece of a few bytes behind those that wait, and keeps the rest of both.
-fn take_joined<C: Converter>(
-    converter: &mut C,
-    scratch: &mut [u8],
-    output: &mut Vec<u8>,
-    tail: &mut Vec<u8>,
-    piece: &[u8],
-) -> Reached
+fn take_joined<C: Converter>(parts: &mut Parts, converter: &mut C, piece: &[u8]) -> Reached
     requires ready { C.ready converter.old }
-    requires range { CanRun (C.tables converter.old) (C.machine converter.old).recipe }
-    requires scratch { ROOM ≤ length scratch.old }
-    requires room { vec_len output.old + ROOM * (vec_len tail.old + length piece.now) ≤ vec_capacity output.old }
-    requires tail { TAIL_ROOM ≤ vec_capacity tail.old }
-    requires waits { vec_len tail.old ≤ LONGEST_TAIL }
+    requires room { HasRoom parts.old (length piece.now) }
     requires piece { length piece.now ≤ BRIDGE }
-    ensures means { let m = C.machine converter.old in let n = C.machine converter.new in
-        (w : List ℕ) × (output.new.items ≡ output.old.items ++ w)
-        × ChainMeans (C.tables converter.old) m.recipe m.reading m.writing (tail.old.items ++ piece.now)
-        w result.verdict result.consumed n.reading n.writing }
-    ensures room { vec_len output.new ≤ vec_len output.old + ROOM * result.consumed }
-    ensures capacity { vec_capacity output.old ≤ vec_capacity output.new }
-    ensures rest { result.verdict ≢ Illegal → tail.new.items ≡ drop result.consumed (tail.old.items ++ piece.now) }
-    ensures short { vec_len tail.new ≤ LONGEST_TAIL }
-    ensures tail { TAIL_ROOM ≤ vec_capacity tail.new }
-    ensures within { result.consumed + vec_len tail.new ≤ vec_len tail.old + length piece.now }
-    ensures recipe { (C.machine converter.new).recipe ≡ (C.machine converter.old).recipe }
-    ensures same { C.tables converter.new ≡ C.tables converter.old }
-    ensures ready { C.ready converter.new }
-    ensures kept { C.kept converter.old converter.new }
+    ensures taken { IsTaken (C.tables converter.old) (C.machine converter.old)
+        (C.machine converter.new) parts.old parts.new piece.now result }
+    ensures back { HandsBack C.tables C.ready C.kept converter.old converter.new }
 {
-    append_within(tail, piece);
-    let reached = convert_through(converter, tail.as_slice(), scratch, output);
+    append_within(&mut parts.tail, piece);
+    let scratch = parts.scratch.as_mut_slice();
+    let reached = convert_through(converter, parts.tail.as_slice(), scratch, &mut parts.output);
     if is_stop(reached.verdict) {
-        tail.clear();
+        parts.tail.clear();
         return reached;
     }
-    drop_front(tail, reached.consumed);
+    drop_front(&mut parts.tail, reached.consumed);
     reached
 }
 
-/// Takes in a piece of more bytes behind those that wait. Only its first bytes are joined to them: a
-/// unit ends among these, and from there the piece is converted where it stands.
-fn take_bridged<C: Converter>(
-    converter: &mut C,
-    scratch: &mut [u8],
-    output: &mut Vec<u8>,
-    tail: &mut Vec<u8>,
-    piece: &[u8],
-) -> Reached
+/// Takes in a piece of more bytes behind those that wait. Only its first bytes are joined to them:
+/// a unit ends among these, and from there the piece is converted where it stands.
+fn take_bridged<C: Converter>(parts: &mut Parts, converter: &mut C, piece: &[u8]) -> Reached
     requires ready { C.ready converter.old }
-    requires range { CanRun (C.tables converter.old) (C.machine converter.old).recipe }
-    requires scratch { ROOM ≤ length scratch.old }
-    requires room { vec_len output.old + ROOM * (vec_len tail.old + length piece.now) ≤ vec_capacity output.old }
-    requires tail { TAIL_ROOM ≤ vec_capacity tail.old }
-    requires waits { vec_len tail.old ≤ LONGEST_TAIL }
+    requires room { HasRoom parts.old (length piece.now) }
     requires piece { BRIDGE ≤ length piece.now }
-    ensures means { let m = C.machine converter.old in let n = C.machine converter.new in
-        (w : List ℕ) × (output.new.items ≡ output.old.items ++ w)
-        × ChainMeans (C.tables converter.old) m.recipe m.reading m.writing (tail.old.items ++ piece.now)
-        w result.verdict result.consumed n.reading n.writing }
-    ensures room { vec_len output.new ≤ vec_len output.old + ROOM * result.consumed }
-    ensures capacity { vec_capacity output.old ≤ vec_capacity output.new }
-    ensures rest { result.verdict ≢ Illegal → tail.new.items ≡ drop result.consumed (tail.old.items ++ piece.now) }
-    ensures short { vec_len tail.new ≤ LONGEST_TAIL }
-    ensures tail { TAIL_ROOM ≤ vec_capacity tail.new }
-    ensures within { result.consumed + vec_len tail.new ≤ vec_len tail.old + length piece.now }
-    ensures recipe { (C.machine converter.new).recipe ≡ (C.machine converter.old).recipe }
-    ensures same { C.tables converter.new ≡ C.tables converter.old }
-    ensures ready { C.ready converter.new }
-    ensures kept { C.kept converter.old converter.new }
+    ensures taken { IsTaken (C.tables converter.old) (C.machine converter.old)
+        (C.machine converter.new) parts.old parts.new piece.now result }
+    ensures back { HandsBack C.tables C.ready C.kept converter.old converter.new }
 {
-    let waited = tail.len();
-    append_within(tail, &piece[..BRIDGE]);
-    let first = convert_through(converter, tail.as_slice(), scratch, output);
-    tail.clear();
+    runs_join();
+    illegal_stays();
+    let waited = parts.tail.len();
+    append_within(&mut parts.tail, &piece[..BRIDGE]);
+    let scratch = parts.scratch.as_mut_slice();
+    let first = convert_through(converter, parts.tail.as_slice(), scratch, &mut parts.output);
+    parts.tail.clear();
     if is_stop(first.verdict) {
         return first;
     }
-    let rest = take_piece(
-        converter,
-        scratch,
-        output,
-        tail,
-        &piece[first.consumed - waited..],
-    );
+    let rest = take_piece(parts, converter, &piece[first.consumed - waited..]);
     Reached {
         consumed: first.consumed + rest.consumed,
         verdict: rest.verdict,
@@ -166,56 +93,35 @@ fn take_bridged<C: Converter>(
 
 /// Takes in a piece: what waits and the piece are converted behind the output, and the rest of both
 /// waits. The room of the output was taken before.
-pub fn take_in<C: Converter>(
-    converter: &mut C,
-    scratch: &mut [u8],
-    output: &mut Vec<u8>,
-    tail: &mut Vec<u8>,
-    piece: &[u8],
-) -> Reached
+pub fn take_in<C: Converter>(parts: &mut Parts, converter: &mut C, piece: &[u8]) -> Reached
     requires ready { C.ready converter.old }
-    requires range { CanRun (C.tables converter.old) (C.machine converter.old).recipe }
-    requires scratch { ROOM ≤ length scratch.old }
-    requires room { vec_len output.old + ROOM * (vec_len tail.old + length piece.now) ≤ vec_capacity output.old }
-    requires tail { TAIL_ROOM ≤ vec_capacity tail.old }
-    requires waits { vec_len tail.old ≤ LONGEST_TAIL }
-    ensures means { let m = C.machine converter.old in let n = C.machine converter.new in
-        (w : List ℕ) × (output.new.items ≡ output.old.items ++ w)
-        × ChainMeans (C.tables converter.old) m.recipe m.reading m.writing (tail.old.items ++ piece.now)
-        w result.verdict result.consumed n.reading n.writing }
-    ensures room { vec_len output.new ≤ vec_len output.old + ROOM * result.consumed }
-    ensures capacity { vec_capacity output.old ≤ vec_capacity output.new }
-    ensures rest { result.verdict ≢ Illegal → tail.new.items ≡ drop result.consumed (tail.old.items ++ piece.now) }
-    ensures short { vec_len tail.new ≤ LONGEST_TAIL }
-    ensures tail { TAIL_ROOM ≤ vec_capacity tail.new }
-    ensures within { result.consumed + vec_len tail.new ≤ vec_len tail.old + length piece.now }
-    ensures recipe { (C.machine converter.new).recipe ≡ (C.machine converter.old).recipe }
-    ensures same { C.tables converter.new ≡ C.tables converter.old }
-    ensures ready { C.ready converter.new }
-    ensures kept { C.kept converter.old converter.new }
+    requires room { HasRoom parts.old (length piece.now) }
+    ensures taken { IsTaken (C.tables converter.old) (C.machine converter.old)
+        (C.machine converter.new) parts.old parts.new piece.now result }
+    ensures back { HandsBack C.tables C.ready C.kept converter.old converter.new }
 {
-    if tail.is_empty() {
-        return take_piece(converter, scratch, output, tail, piece);
+    if parts.tail.is_empty() {
+        return take_piece(parts, converter, piece);
     }
     if piece.len() <= BRIDGE {
-        return take_joined(converter, scratch, output, tail, piece);
+        return take_joined(parts, converter, piece);
     }
-    take_bridged(converter, scratch, output, tail, piece)
+    take_bridged(parts, converter, piece)
 }
 
 /// Writes the return sequence behind the output, and puts the converter to its initial states.
 pub fn close<C: Converter>(converter: &mut C, scratch: &mut [u8], output: &mut Vec<u8>)
     requires ready { C.ready converter.old }
-    requires scratch { ROOM ≤ length scratch.old }
-    requires room { vec_len output.old + ROOM ≤ vec_capacity output.old }
+    requires scratch { most_each ≤ length scratch.old }
+    requires room { vec_len output.old + most_each ≤ vec_capacity output.old }
     ensures items { let m = C.machine converter.old in
-        output.new.items ≡ output.old.items ++ return_of m.recipe.writer m.writing }
-    ensures initial { let m = C.machine converter.old in
-        C.machine converter.new ≡ record { recipe = m.recipe; reading = Plain; writing = Plain } }
-    ensures same { C.tables converter.new ≡ C.tables converter.old }
-    ensures ready { C.ready converter.new }
-    ensures kept { C.kept converter.old converter.new }
+        output.new.items ≡ output.old.items ++ return_of m.recipe.writer m.states.writing }
+    ensures little { vec_len output.new ≤ vec_len output.old + most_each }
+    ensures machine { let m = C.machine converter.old in
+        C.machine converter.new ≡ record { recipe = m.recipe; states = initial } }
+    ensures back { HandsBack C.tables C.ready C.kept converter.old converter.new }
 {
+    spellings_join();
     match converter.reset(scratch) {
         Reset::Closed { produced } => append_within(output, &scratch[..produced]),
         Reset::Full => unreachable!(),

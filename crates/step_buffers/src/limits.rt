@@ -1,14 +1,10 @@
-//! How long pieces and streams may be, and how much room they are given.
+//! The numbers of `specs/Limits.antt`, for the code, and those that are the code's own.
 
 /// A piece has at most this many bytes.
 pub const LONGEST_PIECE: usize = 65_536;
 
 /// All pieces of a stream together have at most this many bytes.
 pub const LONGEST_STREAM: u64 = 281_474_976_710_656;
-
-/// At most this many bytes of a stream wait for the next piece, since a unit of any set has at most
-/// one byte more.
-pub const LONGEST_TAIL: usize = 7;
 
 /// So many bytes of output are taken for each byte of input, and once more for the return sequence.
 pub const ROOM: usize = 8;

@@ -1,12 +1,16 @@
 //! A whole input through one small scratch.
 
-ghost use Rattle.std.specs.Prelude.{◌≡◌, ◌≢◌, ◌+◌, ◌*◌, ◌≤◌, ◌++◌, List, ℕ, length};
+ghost use Rattle.std.specs.Prelude.{◌≡◌, ◌≢◌, ◌+◌, ◌*◌, ◌<◌, ◌≤◌, length, take, drop};
 ghost use Rattle.std.specs.Prelude.{vec_len, vec_capacity, IsTrue, ◌↔◌};
-ghost use Rattle.chain_steps.specs.Chains.{ChainMeans, CanRun};
 ghost use Rattle.unit_relations.specs.declared.verdict.Verdict.TheVariants.{Full, Illegal};
+ghost use Rattle.unit_relations.specs.Calls.{Ends};
+ghost use Rattle.chain_steps.specs.Chains.{chain};
+ghost use Rattle.code_table.specs.HandsBack.{HandsBack};
+ghost use Rattle.step_buffers.specs.Limits.{longest_tail, most_each};
+ghost use Rattle.step_buffers.specs.Steps.{HasWritten, IsConverted};
 
-use crate::limits::{LONGEST_TAIL, ROOM};
-use chain_steps::{Converter, Verdict};
+use crate::parts::append_within;
+use chain_steps::{Converter, Progress, Verdict, runs_are_short, runs_join, units_are_apart};
 
 /// How many bytes of an input were converted, and why no more.
 #[derive(Clone, Copy)]
@@ -15,22 +19,35 @@ pub struct Reached {
     pub verdict: Verdict,
 }
 
-/// Appends bytes for which there is room.
-pub fn append_within(to: &mut Vec<u8>, bytes: &[u8])
-    requires { vec_len to.old + length bytes.now ≤ vec_capacity to.old }
-    ensures items { to.new.items ≡ to.old.items ++ bytes.now }
-    ensures len { vec_len to.new ≡ vec_len to.old + length bytes.now }
-    ensures capacity { vec_capacity to.old ≤ vec_capacity to.new }
-{
-    if to.extend_from_slice(bytes).is_err() {
-        unreachable!();
-    }
-}
-
 fn is_full(verdict: Verdict) -> bool
     ensures { IsTrue result ↔ (verdict ≡ Full) }
 {
     verdict == Verdict::Full
+}
+
+/// Converts as much of the input as the scratch takes, and puts it behind the output.
+fn convert_more<C: Converter>(
+    converter: &mut C,
+    input: &[u8],
+    scratch: &mut [u8],
+    output: &mut Vec<u8>,
+) -> Progress
+    requires ready { C.ready converter.old }
+    requires scratch { most_each ≤ length scratch.old }
+    requires room { vec_len output.old + most_each * length input.now ≤ vec_capacity output.old }
+    ensures written { HasWritten (C.tables converter.old) (C.machine converter.old)
+        (C.machine converter.new) (take result.consumed input.now) output.old output.new }
+    ensures within { result.consumed ≤ length input.now }
+    ensures ends { result.verdict ≢ Full → let m = C.machine converter.old in
+        Ends (chain (C.tables converter.old) m.recipe) (C.machine converter.new).states.reading
+        (drop result.consumed input.now) result.verdict }
+    ensures moved { result.verdict ≡ Full → 0 < result.consumed }
+    ensures back { HandsBack C.tables C.ready C.kept converter.old converter.new }
+{
+    runs_are_short();
+    let progress = converter.convert(input, scratch);
+    append_within(output, &scratch[..progress.produced]);
+    progress
 }
 
 /// Converts all of the input that can be, behind the output, whose room was taken before.
@@ -44,26 +61,19 @@ pub fn convert_through<C: Converter>(
     output: &mut Vec<u8>,
 ) -> Reached
     requires ready { C.ready converter.old }
-    requires range { CanRun (C.tables converter.old) (C.machine converter.old).recipe }
-    requires scratch { ROOM ≤ length scratch.old }
-    requires room { vec_len output.old + ROOM * length input.now ≤ vec_capacity output.old }
-    ensures means { let m = C.machine converter.old in let n = C.machine converter.new in
-        (w : List ℕ) × (output.new.items ≡ output.old.items ++ w)
-        × ChainMeans (C.tables converter.old) m.recipe m.reading m.writing input.now
-        w result.verdict result.consumed n.reading n.writing }
-    ensures room { vec_len output.new ≤ vec_len output.old + ROOM * result.consumed }
-    ensures capacity { vec_capacity output.old ≤ vec_capacity output.new }
-    ensures within { result.consumed ≤ length input.now }
-    ensures short { result.verdict ≢ Illegal → length input.now ≤ result.consumed + LONGEST_TAIL }
-    ensures recipe { (C.machine converter.new).recipe ≡ (C.machine converter.old).recipe }
-    ensures same { C.tables converter.new ≡ C.tables converter.old }
-    ensures ready { C.ready converter.new }
-    ensures kept { C.kept converter.old converter.new }
+    requires scratch { most_each ≤ length scratch.old }
+    requires room { vec_len output.old + most_each * length input.now ≤ vec_capacity output.old }
+    ensures converted { IsConverted (C.tables converter.old) (C.machine converter.old)
+        (C.machine converter.new) input.now output.old output.new result }
+    ensures short { result.verdict ≢ Illegal →
+        length input.now ≤ result.consumed + longest_tail }
+    ensures back { HandsBack C.tables C.ready C.kept converter.old converter.new }
 {
+    runs_join();
+    units_are_apart();
     let mut at = 0;
     loop {
-        let progress = converter.convert(&input[at..], scratch);
-        append_within(output, &scratch[..progress.produced]);
+        let progress = convert_more(converter, &input[at..], scratch, output);
         at += progress.consumed;
         if !is_full(progress.verdict) {
             return Reached {

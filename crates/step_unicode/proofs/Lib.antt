@@ -7,3 +7,4 @@ pub mod Ucs4Fronts
 pub mod Apart
 pub mod States
 pub mod ReadBack
+pub mod Short

@@ -4,7 +4,7 @@ use Rattle.std.specs.List.{flat_map}
 use Rattle.step_unicode.specs.declared.set.Uni.{Uni}
 use Rattle.step_unicode.specs.declared.set.Uni.TheVariants.{Ascii, Utf8, Utf16, Utf16Le, Utf16Be, Ucs4}
 use Rattle.step_unicode.specs.declared.set.State.{State}
-use Rattle.step_unicode.specs.declared.set.State.TheVariants.{Plain, Little, Big, Roman, Kanji}
+use Rattle.step_unicode.specs.declared.set.State.TheVariants.{Plain, Little, Big}
 use Rattle.step_unicode.specs.Points.{IsPoint}
 use Rattle.step_unicode.specs.Utf8.{IsUtf8Unit, utf8}
 use Rattle.step_unicode.specs.Utf16.{little, big, little_bytes, big_bytes, IsUtf16Unit, utf16, IsMarkedUnit, marked, after_marked}
@@ -14,27 +14,19 @@ use Rattle.unit_relations.specs.Spellings.{Spelling}
 -- whether a state is the initial one
 abbrev pub is_plain : State → Bool
 is_plain Plain = true
-is_plain Little = false
-is_plain Big = false
-is_plain Roman = false
-is_plain Kanji = false
+is_plain _ = false
 
 -- whether a state is one of UTF-16: no order yet, or one of the two
 abbrev pub is_order : State → Bool
 is_order Plain = true
 is_order Little = true
 is_order Big = true
-is_order Roman = false
-is_order Kanji = false
+is_order _ = false
 
 -- whether a set can be in a state
 abbrev pub is_state_of : Uni → State → Bool
 is_state_of Utf16 s = is_order s
-is_state_of Ascii s = is_plain s
-is_state_of Utf8 s = is_plain s
-is_state_of Utf16Le s = is_plain s
-is_state_of Utf16Be s = is_plain s
-is_state_of Ucs4 s = is_plain s
+is_state_of _ s = is_plain s
 
 -- the states in which a set can be
 abbrev pub IsStateOf : Uni → State → Type 0
@@ -60,11 +52,7 @@ IsUnit Ucs4 s u q t = Stands IsUcs4Unit s u q t
 -- the points that a set can spell
 abbrev pub IsSpellable : Uni → ℕ → Type 0
 IsSpellable Ascii p = p ≤ 0x7F
-IsSpellable Utf8 p = IsPoint p
-IsSpellable Utf16 p = IsPoint p
-IsSpellable Utf16Le p = IsPoint p
-IsSpellable Utf16Be p = IsPoint p
-IsSpellable Ucs4 p = IsPoint p
+IsSpellable _ p = IsPoint p
 
 -- how a set spells a list of points from a state
 abbrev pub spelled : Uni → State → List ℕ → List ℕ
@@ -78,11 +66,7 @@ spelled Ucs4 s q = flat_map ucs4 q
 -- the state that this leaves
 abbrev pub after : Uni → State → List ℕ → State
 after Utf16 s q = after_marked s q
-after Ascii s q = s
-after Utf8 s q = s
-after Utf16Le s q = s
-after Utf16Be s q = s
-after Ucs4 s q = s
+after _ s q = s
 
 -- the spelling of a set
 abbrev pub spelling : Uni → Spelling State

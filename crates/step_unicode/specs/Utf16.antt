@@ -3,7 +3,7 @@ use Rattle.std.specs.Prelude.{◌≡◌, ◌≢◌, ℕ, ◌+◌, ◌-◌, ◌*�
 use Rattle.std.specs.List.{flat_map}
 use Rattle.step_unicode.specs.Points.{InRange, IsByte, IsPoint}
 use Rattle.step_unicode.specs.declared.set.State.{State}
-use Rattle.step_unicode.specs.declared.set.State.TheVariants.{Plain, Little, Big, Roman, Kanji}
+use Rattle.step_unicode.specs.declared.set.State.TheVariants.{Plain, Little, Big}
 
 -- the number that two bytes are in the little order
 abbrev pub little : ℕ → ℕ → ℕ
@@ -59,23 +59,17 @@ abbrev pub IsMarkedUnit : State → List ℕ → Option ℕ → State → Type 0
 IsMarkedUnit Plain u q t = IsFirstUnit u q t
 IsMarkedUnit Little u q t = IsOrderedUnit little Little u q t
 IsMarkedUnit Big u q t = IsOrderedUnit big Big u q t
-IsMarkedUnit Roman u q t = ⊥
-IsMarkedUnit Kanji u q t = ⊥
+IsMarkedUnit _ u q t = ⊥
 
 -- how UTF-16 spells a list: with a mark before the first point, where no order was set
 abbrev pub marked : State → List ℕ → List ℕ
 marked Plain [] = []
 marked Plain (p ∷ q) = little_mark ++ flat_map (utf16 little_bytes) (p ∷ q)
-marked Little q = flat_map (utf16 little_bytes) q
 marked Big q = flat_map (utf16 big_bytes) q
-marked Roman q = flat_map (utf16 little_bytes) q
-marked Kanji q = flat_map (utf16 little_bytes) q
+marked _ q = flat_map (utf16 little_bytes) q
 
 -- the order that a list leaves
 abbrev pub after_marked : State → List ℕ → State
 after_marked Plain [] = Plain
 after_marked Plain (p ∷ q) = Little
-after_marked Little q = Little
-after_marked Big q = Big
-after_marked Roman q = Roman
-after_marked Kanji q = Kanji
+after_marked s q = s

@@ -14,7 +14,7 @@ pub mod utf16;
 pub mod utf8;
 mod wrote;
 
-pub use laws::{spellings_join, spellings_read_back, units_are_apart};
+pub use laws::{spellings_join, spellings_read_back, states_stay, units_are_apart};
 pub use set::{State, Uni, Unit};
 pub use small::Small;
 pub use units::{read_unit, write_at, write_unit};

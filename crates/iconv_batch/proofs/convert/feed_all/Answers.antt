@@ -12,9 +12,12 @@ loop-at-preserved g c =
     let more : at.at + (end - at.at) ≡ end = omega arith in
     let front : take end x ≡ take at.at x ++ take (end - at.at) (drop at.at x) = ap (λ k. take k x) (sym more) ∙ take-add at.at (end - at.at) x in
     record {
-      ready = fed.ready;
       recipe = fed.recipe ∙ at.invariant.recipe;
-      same = fed.same ∙ at.invariant.same;
+      back = record {
+        same = fed.back.same ∙ at.invariant.back.same;
+        ready = fed.back.ready;
+        kept = g.met.C.Converter.kept_twice _ _ _ at.invariant.back.kept fed.back.kept;
+      };
       stands = subst (λ z. StandsFor (g.C.Converter.tables c.feed.new.converter) (g.C.Converter.machine c.feed.new.converter) c.feed.new.self z) (sym front)
           (fed.stands (take at.at x) at.invariant.stands);
       taken = omega (arith, fed.taken, at.invariant.taken, length-take (end - at.at) (drop at.at x), length-drop at.at x);

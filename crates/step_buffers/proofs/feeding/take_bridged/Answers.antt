@@ -1,68 +1,48 @@
-use Rattle.std.proofs.Common.{◌≡◌, ◌++◌, ◌∙◌, ◌+◌, ◌-◌, ◌≤◌, List, ℕ, length, take, ap, sym, subst, arith, append_assoc}
-use Rattle.std.proofs.lemmas.List.{length-take-le}
-use Rattle.code_pairs.specs.Tables.{Tables}
-use Rattle.chain_steps.specs.Machine.{Machine}
-use Rattle.chain_steps.specs.Chains.{ChainMeans}
-use Rattle.chain_steps.proofs.Steps.{left}
+use Rattle.std.proofs.Common.{rules, ◌≡◌, ◌+◌, ◌-◌, ◌≤◌, ◌++◌, ◌∙◌, ℕ, List, length, take, drop, sym, ap, subst, arith, length-drop}
+use Rattle.std.specs.Vec.{with_items}
+use Rattle.std.proofs.lemmas.List.{take_rest, length-take-le}
+use Rattle.step_buffers.specs.Steps.{IsConverted}
+use Rattle.step_buffers.specs.declared.parts.Parts.{Parts}
 use Rattle.step_buffers.specs.declared.limits.TheConstants.{BRIDGE}
-use Rattle.step_buffers.proofs.Bridge.{bridge_stops, bridge_on, bridge_left}
-use Rattle.step_buffers.proofs.Feeds.{stops_illegal, going_legal}
-use Rattle.step_buffers.proofs.Scratch.{moved_means}
+use Rattle.step_buffers.proofs.Bridge.{bridged, bridge_stops}
+use Rattle.step_buffers.proofs.Verdicts.{stops_illegal, going_legal}
 use Rattle.step_buffers.proofs.feeding.take_bridged.Goals as goal
 
-pub returns-then-is_stop-clause-means : goal.returns-then-is_stop-clause-means
-returns-then-is_stop-clause-means g c =
-    let ts : Tables = g.C.Converter.tables c.args.converter.now in
-    let m : Machine = g.C.Converter.machine c.args.converter.now in
+pub returns-then-is_stop-clause-taken : goal.returns-then-is_stop-clause-taken
+returns-then-is_stop-clause-taken g c =
     let a = c.convert_through-first in
-    let n : Machine = g.C.Converter.machine a.new.converter in
-    let waits = c.args.tail.now.items in
-    let w = a.ensures.means.0 in
-    let joined : ChainMeans ts m.recipe m.reading m.writing (waits ++ take BRIDGE c.args.piece.now) w a.result.verdict a.result.consumed n.reading n.writing =
-    subst (λ (z : List ℕ). ChainMeans ts m.recipe m.reading m.writing z w a.result.verdict a.result.consumed n.reading n.writing)
-    (c.as_slice.ensures.value ∙ c.append_within.ensures.items) a.ensures.means.2 in (
-      w,
-      a.ensures.means.1,
-      bridge_stops ts m.recipe _ _ waits c.args.piece.now w a.result.verdict BRIDGE a.result.consumed _ _
-          (stops_illegal a.result.verdict (sym c.is_stop.ensures ∙ c.if-is_stop.true)) joined,
-    )
-
-pub returns-clause-means : goal.returns-clause-means
-returns-clause-means g c =
-    let ts : Tables = g.C.Converter.tables c.args.converter.now in
-    let m : Machine = g.C.Converter.machine c.args.converter.now in
-    let a = c.convert_through-first in
-    let b = c.take_piece-rest in
-    let n : Machine = g.C.Converter.machine a.new.converter in
-    let p : Machine = g.C.Converter.machine b.new.converter in
-    let waits = c.args.tail.now.items in
     let piece = c.args.piece.now in
-    let w = a.ensures.means.0 in
-    let v = b.ensures.means.0 in
+    let joined = subst (λ (z : List ℕ). IsConverted (g.C.Converter.tables c.args.converter.now) (g.C.Converter.machine c.args.converter.now)
+    (g.C.Converter.machine a.new.converter) z c.args.parts.now.output a.new.output a.result)
+    (c.as_slice.ensures.value ∙ c.append_within.ensures.items) a.ensures.converted in
+    let eight : length (take BRIDGE piece) ≡ BRIDGE = length-take-le BRIDGE piece c.requires.piece in
+    bridge_stops c.illegal_stays.ensures _ _ _ c.args.parts.now _ piece BRIDGE a.result
+    (stops_illegal a.result.verdict (sym c.is_stop.ensures ∙ c.if-is_stop.true))
+    c.clear.ensures.items (search rules) (search rules) (search rules) (search rules) joined
+
+pub returns-clause-taken : goal.returns-clause-taken
+returns-clause-taken g c =
+    let a = c.convert_through-first in
+    let piece = c.args.piece.now in
+    let waits = c.args.parts.now.tail.items in
     let k : ℕ = a.result.consumed - c.len-waited.result in
-    let joined : ChainMeans ts m.recipe m.reading m.writing (waits ++ take BRIDGE piece) w a.result.verdict a.result.consumed n.reading n.writing =
-    subst (λ (z : List ℕ). ChainMeans ts m.recipe m.reading m.writing z w a.result.verdict a.result.consumed n.reading n.writing)
-    (c.as_slice.ensures.value ∙ c.append_within.ensures.items) a.ensures.means.2 in
-    let rest : ChainMeans ts m.recipe n.reading n.writing (left piece k) v b.result.verdict b.result.consumed p.reading p.writing =
-    moved_means _ ts _ m.recipe _ _ _ _ _ _ _ _ a.ensures.same a.ensures.recipe b.ensures.means.2 in
+    let joined = subst (λ (z : List ℕ). IsConverted (g.C.Converter.tables c.args.converter.now) (g.C.Converter.machine c.args.converter.now)
+    (g.C.Converter.machine a.new.converter) z c.args.parts.now.output a.new.output a.result)
+    (c.as_slice.ensures.value ∙ c.append_within.ensures.items) a.ensures.converted in
     let legal = a.ensures.short (going_legal a.result.verdict (sym c.is_stop.ensures ∙ c.if-is_stop.false)) in
-    let long = c.args.tail.now.ok.0 in
+    let long = c.args.parts.now.tail.ok.0 in
     let eight : length (take BRIDGE piece) ≡ BRIDGE = length-take-le BRIDGE piece c.requires.piece in
     let both : length c.as_slice.result.now ≡ length waits + BRIDGE = omega (arith, c.as_slice.ensures.len, c.append_within.ensures.len) in
     let place : a.result.consumed ≡ length waits + k = omega (arith, c.len-waited.ensures) in
-    let within : k ≤ BRIDGE = omega (arith, a.ensures.within) in (
-      w ++ v,
-      b.ensures.means.1 ∙ ap (λ (z : List ℕ). z ++ v) a.ensures.means.1 ∙ append_assoc c.args.output.now.items w v,
-      bridge_on ts m.recipe _ _ waits piece w a.result.verdict BRIDGE k a.result.consumed _ _ v b.result.verdict b.result.consumed _ _ place within joined rest,
-    )
-
-pub returns-clause-rest : goal.returns-clause-rest
-returns-clause-rest g c = λ legal.
-    let k : ℕ = c.convert_through-first.result.consumed - c.len-waited.result in
-    let a = c.convert_through-first in
-    let went = a.ensures.short (going_legal a.result.verdict (sym c.is_stop.ensures ∙ c.if-is_stop.false)) in
-    let long = c.args.tail.now.ok.0 in
-    let eight : length (take BRIDGE c.args.piece.now) ≡ BRIDGE = length-take-le BRIDGE c.args.piece.now c.requires.piece in
-    let both : length c.as_slice.result.now ≡ length c.args.tail.now.items + BRIDGE = omega (arith, c.as_slice.ensures.len, c.append_within.ensures.len) in
-    let place : a.result.consumed ≡ length c.args.tail.now.items + k = omega (arith, c.len-waited.ensures) in
-    bridge_left c.args.tail.now.items c.args.piece.now c.take_piece-rest.new.tail.items k a.result.consumed c.take_piece-rest.result.consumed place (c.take_piece-rest.ensures.rest legal)
+    let near : k ≤ BRIDGE = omega (arith, a.ensures.converted.within) in
+    let left : List ℕ = take (length piece - k) (drop k piece) in
+    let cleared : Parts = record {
+      output = a.new.output;
+      tail = c.clear.new.self;
+      scratch = with_items c.args.parts.now.scratch a.new.scratch;
+    } in
+    bridged c.runs_join.ensures.both _ _ _ _ _ c.args.parts.now cleared _ piece left BRIDGE k a.result c.take_piece-rest.result a.ensures.back.same
+    (ap (λ (z : List ℕ). z ++ left) c.clear.ensures.items ∙ take_rest piece k)
+    place near (omega (arith, c.requires.piece))
+    (omega (arith, c.clear.ensures.len, ap length (take_rest piece k), length-drop k piece, c.requires.piece))
+    (search rules) (search rules) joined c.take_piece-rest.ensures.taken

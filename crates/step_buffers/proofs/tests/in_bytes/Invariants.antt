@@ -1,10 +1,8 @@
 use Rattle.std.proofs.Common.{◌≤◌}
-use Rattle.code_pairs.specs.Tables.{Tables}
-use Rattle.chain_steps.specs.Chains.{CanRun}
 use Rattle.step_buffers.proofs.tests.in_bytes.Given as goal
 
 abbrev pub invariant-loop-byte : goal.invariant-loop-byte
-invariant-loop-byte l = record {
+invariant-loop-byte g l = record {
+  ready : g.C.Converter.ready l.converter;
   taken : l.session.taken ≤ l.byte-index;
-  runs : (ts : Tables) → CanRun ts l.bound.runner.now.recipe;
 }

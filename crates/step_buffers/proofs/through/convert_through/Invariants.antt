@@ -1,17 +1,14 @@
-use Rattle.std.proofs.Common.{◌≡◌, ◌≤◌, ◌-◌, length, vec_len, vec_capacity}
-use Rattle.step_buffers.proofs.Scratch.{IsMade}
+use Rattle.std.proofs.Common.{◌≤◌, ◌-◌, length, take}
+use Rattle.code_table.specs.HandsBack.{HandsBack}
+use Rattle.step_buffers.specs.Steps.{HasWritten}
 use Rattle.step_buffers.proofs.through.convert_through.Given as goal
 
 abbrev pub invariant-loop-progress : goal.invariant-loop-progress
 invariant-loop-progress g l = record {
-  same : g.C.Converter.tables l.converter ≡ g.C.Converter.tables l.initial.converter;
-  ready : g.C.Converter.ready l.converter;
-  kept : g.C.Converter.kept l.initial.converter l.converter;
-  recipe : (g.C.Converter.machine l.converter).recipe ≡ (g.C.Converter.machine l.initial.converter).recipe;
   within : l.at ≤ length l.input;
-  made : IsMade (g.C.Converter.tables l.initial.converter) (g.C.Converter.machine l.initial.converter) (g.C.Converter.machine l.converter)
-      l.input l.at l.initial.output.items l.output.items (vec_len l.initial.output) (vec_len l.output);
-  capacity : vec_capacity l.initial.output ≤ vec_capacity l.output;
+  written : HasWritten (g.C.Converter.tables l.initial.converter) (g.C.Converter.machine l.initial.converter) (g.C.Converter.machine l.converter)
+      (take l.at l.input) l.initial.output l.output;
+  back : HandsBack g.C.Converter.tables g.C.Converter.ready g.C.Converter.kept l.initial.converter l.converter;
 }
 
 abbrev pub decreases-loop-progress : goal.decreases-loop-progress
