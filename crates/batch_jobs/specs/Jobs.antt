@@ -44,10 +44,9 @@ is_file_name word = is_utf8 word && not (list_any (λ b. b == 0) word)
 -- hasn't four words, else that IN or OUT is no name of a file, else that it is one job too many.
 abbrev pub job_of : ℕ → ℕ → List Text → Result JobLine JobFault
 job_of before line (from ∷ to ∷ input ∷ output ∷ []) =
-    if is_file_name input && is_file_name output then (
-      if nat_le MOST_JOBS before then Err (TooMany line)
-      else Ok (record { line = line; from = from; to = to; input = input; output = output })
-    ) else Err (NotText line)
+    if not (is_file_name input && is_file_name output) then Err (NotText line)
+    else (if nat_le MOST_JOBS before then Err (TooMany line)
+    else Ok (record { line = line; from = from; to = to; input = input; output = output }))
 job_of before line _ = Err (WordCount line)
 
 -- A job before others, unless it or they have a fault.

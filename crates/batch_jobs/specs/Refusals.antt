@@ -1,5 +1,5 @@
 -- The texts of refusals. Numbers are decimal, codes are hexadecimal in upper case.
-use Rattle.std.specs.Prelude.{ℕ, ◌+◌, ◌/◌, ◌%◌, List, [], ◌∷◌, ◌++◌, codes, nat_lt, if◌then◌else◌}
+use Rattle.std.specs.Prelude.{ℕ, ◌+◌, ◌/◌, ◌%◌, [], ◌∷◌, ◌++◌, codes, nat_lt, if◌then◌else◌}
 use Rattle.std.specs.Fmt.{decimal}
 use Rattle.names_alias.specs.declared.fault.NameFault.{NameFault}
 use Rattle.names_alias.specs.declared.fault.NameFault.TheVariants as name

@@ -29,13 +29,7 @@ fn file_name(word: &[u8]) -> Option<&str>
         (λ name. (is_file_name word.now ≡ true) × (name.now ≡ word.now)) }
 {
     match from_utf8(word) {
-        Ok(name) => {
-            if word.contains(&0) {
-                None
-            } else {
-                Some(name)
-            }
-        }
+        Ok(name) => { if word.contains(&0) { None } else { Some(name) } }
         Err(_) => None,
     }
 }
@@ -52,7 +46,12 @@ fn make_job(
     requires from { length from.now ≤ longest_text }
     requires to { length to.now ≤ longest_text }
     ensures value { IfOk result (λ job. line_of job ≡ record {
-        line = line; from = from.now; to = to.now; input = input.now; output = output.now }) }
+      line = line;
+      from = from.now;
+      to = to.now;
+      input = input.now;
+      output = output.now;
+    }) }
     ensures short { IfOk result HasShortNames }
 {
     Ok(Job {
@@ -65,17 +64,12 @@ fn make_job(
 }
 
 /// The job of a line with so many jobs before it.
-fn read_job(
-    alloc: Global,
-    before: usize,
-    line: u32,
-    words: &[&[u8]],
-) -> Result<Job, JobFault>
+fn read_job(alloc: Global, before: usize, line: u32, words: &[&[u8]]) -> Result<Job, JobFault>
     requires { All (λ word. length word.now ≤ longest_text) words.now }
     ensures value { MatchResult result
         (λ job. job_of before line (map (λ word. word.now) words.now) ≡ Ok (line_of job))
         (λ fault. fault ≢ JobFault.Memory
-            → job_of before line (map (λ word. word.now) words.now) ≡ Err fault) }
+        → job_of before line (map (λ word. word.now) words.now) ≡ Err fault) }
     ensures few { IfOk result (λ _. before < MOST_JOBS) }
     ensures short { IfOk result HasShortNames }
 {
@@ -98,12 +92,7 @@ fn read_job(
 }
 
 /// Takes one more line.
-fn take_line(
-    alloc: Global,
-    jobs: &mut Vec<Job>,
-    number: u32,
-    line: &[u8],
-) -> Result<(), JobFault>
+fn take_line(alloc: Global, jobs: &mut Vec<Job>, number: u32, line: &[u8]) -> Result<(), JobFault>
     requires long { length line.now ≤ longest_text }
     requires few { length jobs.old.items ≤ MOST_JOBS }
     requires short { All HasShortNames jobs.old.items }

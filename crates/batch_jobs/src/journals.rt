@@ -10,11 +10,7 @@ use runtime_histories::{Asked, Entry, Event, Load, Reply};
 use std::alloc::{AllocError, Global};
 
 /// Appends numbers, each behind a comma.
-fn add_more_numbers(
-    alloc: Global,
-    text: &mut Vec<u8>,
-    numbers: &[u32],
-) -> Result<(), AllocError>
+fn add_more_numbers(alloc: Global, text: &mut Vec<u8>, numbers: &[u32]) -> Result<(), AllocError>
     ensures { OnOk result (text.new.items ≡ text.old.items ++ more_of decimal numbers.now) }
 {
     'numbers: for number in numbers {

@@ -10,6 +10,8 @@ mod numbers;
 mod outcomes;
 mod refusal_texts;
 mod reports;
+#[cfg(test)]
+mod tests;
 
 pub use job_reader::read_jobs;
 pub use jobs::{Job, JobFault};

@@ -59,7 +59,11 @@ fn hex_digit(value: u8) -> u8
     requires { value < 16 }
     ensures { result ≡ hex_digit value }
 {
-    if value < 10 { b'0' + value } else { b'A' + (value - 10) }
+    if value < 10 {
+        b'0' + value
+    } else {
+        b'A' + (value - 10)
+    }
 }
 
 /// Appends the bytes of a code, two hexadecimal digits each.
@@ -74,11 +78,7 @@ fn add_hex(text: &mut Vec<u8>, code: &Code) -> Result<(), AllocError>
 }
 
 /// Appends what is wrong with the text of a charmap.
-fn add_text_fault(
-    alloc: Global,
-    text: &mut Vec<u8>,
-    fault: &TextFault,
-) -> Result<(), AllocError>
+fn add_text_fault(alloc: Global, text: &mut Vec<u8>, fault: &TextFault) -> Result<(), AllocError>
     ensures { OnOk result (text.new.items ≡ text.old.items ++ text_fault_text fault.now) }
 {
     match fault {

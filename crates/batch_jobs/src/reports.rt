@@ -88,7 +88,11 @@ fn add_counts(
 ) -> Result<(), AllocError>
     requires { good ≤ jobs }
     ensures { OnOk result (text.new.items ≡ text.old.items ++ summary (record {
-        jobs = jobs; good = good; read = read; written = written })) }
+      jobs = jobs;
+      good = good;
+      read = read;
+      written = written;
+    })) }
 {
     add_at(alloc, text, b"jobs ", jobs)?;
     add_at(alloc, text, b" ok ", good)?;
