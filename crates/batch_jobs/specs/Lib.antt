@@ -3,3 +3,5 @@ pub mod Reading
 pub mod Refusals
 pub mod Reports
 pub mod Journals
+pub mod Inverses
+pub mod Generated

@@ -55,7 +55,7 @@ fn add_bad_name(
 }
 
 /// A hexadecimal digit, in upper case.
-fn hex_digit(value: u8) -> u8
+pub(crate) fn hex_digit(value: u8) -> u8
     requires { value < 16 }
     ensures { result ≡ hex_digit value }
 {
