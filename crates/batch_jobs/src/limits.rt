@@ -1,0 +1,19 @@
+//! How long a list of jobs may be.
+
+/// The most jobs.
+pub const MOST_JOBS: usize = 4_096;
+
+/// The greatest number of an input that the program makes itself.
+pub const MOST_NUMBER: u32 = 1_000;
+
+/// The charmaps of such an input.
+pub(crate) const MADE_CHARMAPS: u32 = 8;
+
+/// The lines of each of its charmaps that map a point to two bytes.
+pub(crate) const MADE_LINES: u32 = 1_024;
+
+/// Its jobs.
+pub(crate) const MADE_JOBS: u32 = 64;
+
+/// The points of the input of each of its jobs.
+pub(crate) const MADE_POINTS: u32 = 65_536;
