@@ -1,16 +1,19 @@
-//! What holds of look-ups in every well formed table, and of every two of them.
+//! What holds of look-ups in every well formed table and of every two of them, and of page images.
 
-ghost use Rattle.std.specs.Prelude.{ℕ, List};
+ghost use Rattle.std.specs.Prelude.{◌≡◌, ◌*◌, ◌<◌, ◌^◌, ℕ, List, length};
 ghost use Rattle.code_pairs.specs.Tables.{Table, IsWellFormed};
 ghost use Rattle.code_table.specs.HandsBack.{HandsBack};
+ghost use Rattle.code_table.specs.Images.{root_of, page_count, image};
 ghost use Rattle.code_table.specs.Looks.{look_of, IsLook};
 
 use crate::lookup::Lookup;
+use crate::table::CodeTable;
 
 /// What a look-up answers is what it says of the bytes.
 #[inline(always)]
 pub fn looks_tell()
-    ensures { (table : Table) (bytes : List ℕ) → IsWellFormed table → IsLook table bytes (look_of table bytes) }
+    ensures { (table : Table) (bytes : List ℕ) → IsWellFormed table
+        → IsLook table bytes (look_of table bytes) }
 {}
 
 /// Two calls, one after the other, hand back what one would.
@@ -19,3 +22,18 @@ pub fn hand_back_twice<T: Lookup>()
     ensures { (x y z : T) → HandsBack T.tables T.ready T.kept x y →
         HandsBack T.tables T.ready T.kept y z → HandsBack T.tables T.ready T.kept x z }
 {}
+
+/// A page image has 256 words a page.
+#[inline(always)]
+pub fn pages_have_words()
+    ensures { (table : Table) → length (image table) ≡ 256 * page_count table }
+{}
+
+/// A page image has decode pages and others behind them, fewer than 2^32 in all.
+pub fn pages_are_counted(table: &CodeTable)
+    ensures decode { 0 < root_of table.now }
+    ensures behind { root_of table.now < page_count table.now }
+    ensures few { page_count table.now < 2 ^ 32 }
+{
+    let _pages = table.pages();
+}

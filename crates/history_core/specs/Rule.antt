@@ -120,7 +120,8 @@ module _ {V E T : Type 0} (setting : V → T) (Legal : T → History E → Type 
         get_elem? s.views i ≡ some k → k.served ≡ true → i ≡ seat
 
   -- The rule: there is a history whose length word 0 is, and which is legal; the turn is free or
-  -- one seat has it; each word that a number has pinned stands; the words that the served seat wrote
+  -- one seat has it; each word that a number has pinned stands; the words that the served seat
+  -- wrote
   -- stand, in places that no number has pinned; and each view fits.
   pub record Kept (count : ℕ) (t : T) (s : State (Held V E) (View E T)) : Type 0 where
     pub log : History E

@@ -49,7 +49,8 @@ pub fn put_table<S: PagedStory>(turn: &mut Turn<'_, S>, table: &CodeTable, pages
         × (turn.new.hall ≡ turn.old.hall) × (turn.new.value ≡ turn.old.value) }
     ensures pass { (number turn.new.pass.now ≡ number turn.old.pass.now)
         × (front turn.new.pass.now ≡ front turn.old.pass.now) }
-    ensures filled { AreFilled table.now pages.now (page_count table.now) (filled turn.new.pass.now) }
+    ensures filled { AreFilled table.now pages.now (page_count table.now)
+        (filled turn.new.pass.now) }
     ensures others { (place : ℕ)
         → ((k j : ℕ) → k < length pages.now → j < 256 → place ≢ side pages.now k j)
         → last_fill place (filled turn.new.pass.now)

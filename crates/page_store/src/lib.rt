@@ -6,14 +6,12 @@
 #![tactic(auto)]
 
 mod filling;
-mod laws;
 mod page_words;
 mod pin;
 mod pinned;
 mod story;
 
 pub use filling::put_table;
-pub use laws::pages_are_counted;
 pub use pin::Pin;
 pub use pinned::Pinned;
 pub use story::PagedStory;

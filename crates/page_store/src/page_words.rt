@@ -8,7 +8,7 @@ ghost use Rattle.page_store.specs.Holdings.{table_in, holdings_of, IsPin};
 use crate::pin::Pin;
 use crate::story::PagedStory;
 use code_pairs::Code;
-use code_table::{Layout, Look, bytes_in, code_in};
+use code_table::{Layout, Look, bytes_in, code_in, pages_have_words};
 use history_core::{Hall, Pass};
 use trie::Words;
 
@@ -41,6 +41,7 @@ impl<'a, S: PagedStory> Words for PageWords<'a, S> {
 
     #[inline(always)]
     fn word(&mut self, page: u32, place: u8) -> u64 {
+        pages_have_words();
         let page = self.pages[page as usize];
         let pass = &mut *self.pass;
         self.hall.read(pass, 256 * page + place as u32)

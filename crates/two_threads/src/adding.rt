@@ -112,3 +112,21 @@ pub fn add_by_two<R: Threads + Wait + Sync>(rt: &R, alloc: Global) -> Option<u64
         None
     }
 }
+
+/// The sum after so many commits of one thread, each of 1.
+pub fn add_often<R: Wait>(rt: &R, alloc: Global, times: u32) -> Option<u64> {
+    let made = Hall::<Tally>::new(alloc, 0, 0);
+    let Ok((hall, mut lead)) = made else {
+        return None;
+    };
+    let Ok(mut pass) = hall.split(&mut lead) else {
+        unreachable!()
+    };
+    for _ in 0..times {
+        if !add(rt, &hall, &mut pass, 1) {
+            break;
+        }
+    }
+    hall.join(&mut lead, pass);
+    hall.abandon(lead)
+}

@@ -8,11 +8,15 @@ use Rattle.page_store.proofs.filling.put_table.Given as goal
 abbrev pub invariant-loop-page : goal.invariant-loop-page
 invariant-loop-page g l =
     IsTurnOf l.initial.turn.hall.now l.turn
-    × (l.turn.pass.ghost_name ≡ l.initial.turn.pass.ghost_name) × (l.turn.hall ≡ l.initial.turn.hall) × (l.turn.value ≡ l.initial.turn.value)
-    × (number l.turn.pass.now ≡ number l.initial.turn.pass.now) × (front l.turn.pass.now ≡ front l.initial.turn.pass.now)
+    × (l.turn.pass.ghost_name ≡ l.initial.turn.pass.ghost_name)
+    × (l.turn.hall ≡ l.initial.turn.hall) × (l.turn.value ≡ l.initial.turn.value)
+    × (number l.turn.pass.now ≡ number l.initial.turn.pass.now)
+    × (front l.turn.pass.now ≡ front l.initial.turn.pass.now)
     × (l.page ≤ l.count)
     × AreFilled l.table l.pages l.page (filled l.turn.pass.now)
-    × ((place : ℕ) → ((k j : ℕ) → k < length l.pages → j < 256 → place ≢ side l.pages k j) → last_fill place (filled l.turn.pass.now) ≡ last_fill place (filled l.initial.turn.pass.now))
+    × ((place : ℕ) → ((k j : ℕ) → k < length l.pages → j < 256 → place ≢ side l.pages k j)
+    → last_fill place (filled l.turn.pass.now)
+    ≡ last_fill place (filled l.initial.turn.pass.now))
 
 abbrev pub decreases-loop-page : goal.decreases-loop-page
 decreases-loop-page g l = l.count - l.page
