@@ -3,3 +3,4 @@ pub mod Loading
 pub mod Deciding
 pub mod Answering
 pub mod Following
+pub mod RoomMade

@@ -1,17 +1,26 @@
 -- What an opening leaves in the books.
-use Rattle.std.specs.Prelude.{◌≡◌, ℕ, [], ◌∷◌, ◌++◌}
+use Rattle.std.specs.Prelude.{◌≡◌, ℕ, Bool, true, false, List, [], ◌∷◌, ◌++◌, length, map}
+use Rattle.outside.specs.Moments.{Holdings}
 use Rattle.runtime_histories.specs.declared.entries.Entry.{Entry}
-use Rattle.runtime_histories.specs.declared.entries.Event.TheVariants.{Opening}
+use Rattle.runtime_histories.specs.declared.entries.Event.TheVariants as events
 use Rattle.runtime_histories.specs.declared.entries.Reply.{Reply}
+use Rattle.runtime_histories.specs.declared.entries.Reply.TheVariants.{Refused}
 use Rattle.runtime_histories.specs.declared.refusals.Asked.{Asked}
-use Rattle.runtime_histories.specs.Entries.{deeds}
+use Rattle.runtime_histories.specs.declared.refusals.Refusal.{Refusal}
+use Rattle.runtime_histories.specs.declared.refusals.Refusal.TheVariants as refusals
+use Rattle.runtime_histories.specs.Entries.{deeds, loaded_of}
 use Rattle.runtime_histories.specs.Legal.{IsAnswered}
 use Rattle.runtime_histories.specs.Settings.{Setting}
-use Rattle.module_counts.specs.Counting.{Booked, IsSettingOf}
+use Rattle.module_counts.specs.Counting.{Booked, IsSettingOf, RefusesRoom}
+use Rattle.pair_openings.specs.Answers.{Replies, reply_of}
+use Rattle.pair_openings.specs.Loading.{Ground}
+use Rattle.pair_openings.specs.Plans as plans
+use Rattle.pair_openings.specs.declared.opened.Opened.{Opened}
+use Rattle.pair_openings.specs.declared.planning.Opening.{Opening}
 
 -- The entry of an opening.
 abbrev pub entry_of : ℕ → Asked → Asked → Reply → Entry
-entry_of caller from to reply = record { caller = caller; event = Opening from to reply }
+entry_of caller from to reply = record { caller = caller; event = events.Opening from to reply }
 
 -- The journal has one entry more; graph, pages and limit stay.
 pub record Enters (old new : Booked) (e : Entry) : Type 0 where
@@ -25,3 +34,41 @@ pub record IsNextIn (c : Booked) (from to : Asked) (reply : Reply) : Type 0 wher
   pub setting : Setting
   pub of : IsSettingOf c setting
   pub answered : IsAnswered setting setting.first.graph (deeds c.journal) from to reply
+
+-- What the books stand on, with a directory of charmaps.
+abbrev pub ground_of : List ℕ → Booked → Ground
+ground_of directory c = record { directory = directory; graph = c.graph; pages = c.pages; log = deeds c.journal }
+
+-- A reply was entered, which is legal next, and the library was asked for exactly what such an opening asks for.
+pub record Leaves (directory : List ℕ) (a b : Booked) (old new : Holdings) (caller : ℕ) (from to : Asked) (reply : Reply) : Type 0 where
+  pub enters : Enters a b (entry_of caller from to reply)
+  pub replies : Replies (ground_of directory a) old new from to reply
+
+-- The journal stays, and so do graph, pages and limit.
+pub record Stays (a b : Booked) : Type 0 where
+  pub journal : b.journal ≡ a.journal
+  pub graph : b.graph ≡ a.graph
+  pub pages : b.pages ≡ a.pages
+  pub limit : b.limit ≡ a.limit
+
+-- A pair was opened: its number is the position of its entry, and these tables were loaded.
+pub record HasOpened (directory : List ℕ) (a b : Booked) (old new : Holdings) (caller : ℕ) (from to : Asked) (o : Opened) : Type 0 where
+  pub opening : Opening
+  pub leaves : Leaves directory a b old new caller from to (reply_of opening)
+  pub number : o.number ≡ length a.journal
+  pub tables : map (λ l. l.tables) (map loaded_of opening.loads.items) ≡ o.tables.items
+
+-- Memory was wanting.
+abbrev pub is_want : Refusal → Bool
+is_want refusals.Memory = true
+is_want _ = false
+
+-- Why a pair wasn't opened. A full journal and want of memory leave no entry; every other refusal leaves one, and
+-- the library is blamed only where its count of faults rose.
+abbrev pub HasRefused : List ℕ → Booked → Booked → Holdings → Holdings → ℕ → Asked → Asked → Refusal → Type 0
+HasRefused directory a b old new caller from to (refusals.JournalFull count) =
+    RefusesRoom a (refusals.JournalFull count) × Stays a b × (new ≡ old)
+HasRefused directory a b old new caller from to refusals.Memory =
+    Stays a b × ((more : List (List ℕ)) × plans.Asked old new more)
+HasRefused directory a b old new caller from to why =
+    Leaves directory a b old new caller from to (Refused why) × plans.IsBlamed why old new

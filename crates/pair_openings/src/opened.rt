@@ -1,0 +1,115 @@
+//! A pair is opened.
+ghost use Rattle.std.specs.Prelude.{◌≡◌, ◌+◌, ◌≤◌, length, IfOk, IfErr};
+ghost use Rattle.text_lines.specs.Limits.{longest_text};
+ghost use Rattle.runtime_histories.specs.Charmaps.{HasText};
+ghost use Rattle.pair_openings.specs.Asking.{asked_of};
+ghost use Rattle.pair_openings.specs.Entered.{HasOpened, HasRefused, is_want};
+
+use crate::answer::decide;
+use crate::enter::{enter_opening, enter_refusal};
+use crate::names::asked;
+use module_counts::Counts;
+use module_graph::Graph;
+use names_alias::Aliases;
+use outside::Library;
+use runtime_histories::{ModuleTables, Refusal};
+use std::alloc::Global;
+use std::sync::ledger::Ledger;
+use work_steps::Steps;
+
+/// A pair that was opened: the position of its entry, and the tables of the modules that it loaded.
+#[derive(Drop)]
+pub struct Opened {
+    pub number: u64,
+    pub tables: Vec<ModuleTables>,
+}
+
+/// The same refusal, without an allocation.
+fn copied(why: &Refusal) -> Refusal
+    ensures { result ≡ why.now }
+{
+    match why {
+        Refusal::BadName { which, fault } => Refusal::BadName {
+            which: *which,
+            fault: *fault,
+        },
+        Refusal::NoConversion => Refusal::NoConversion,
+        Refusal::LibraryFault { module, charmap } => Refusal::LibraryFault {
+            module: *module,
+            charmap: charmap.copied(),
+        },
+        Refusal::NoCharmap { module, charmap } => Refusal::NoCharmap {
+            module: *module,
+            charmap: charmap.copied(),
+        },
+        Refusal::BadCharmap {
+            module,
+            charmap,
+            fault,
+        } => Refusal::BadCharmap {
+            module: *module,
+            charmap: charmap.copied(),
+            fault: *fault,
+        },
+        Refusal::StoreFull { need, free } => Refusal::StoreFull {
+            need: *need,
+            free: *free,
+        },
+        Refusal::JournalFull { length } => Refusal::JournalFull { length: *length },
+        Refusal::Memory => Refusal::Memory,
+    }
+}
+
+/// Whether memory was wanting.
+fn is_memory(why: &Refusal) -> bool
+    ensures { result ≡ is_want why.now }
+{
+    match why {
+        Refusal::Memory => true,
+        _ => false,
+    }
+}
+
+/// Opens a pair: makes room, decides, and enters what was decided.
+pub fn open_pair<L: Library, K: Ledger>(
+    alloc: Global,
+    counts: &mut Counts,
+    graph: &Graph,
+    aliases: &Aliases,
+    library: &mut L,
+    dir: &str,
+    caller: u32,
+    from: &[u8],
+    to: &[u8],
+    steps: &mut Steps<K>,
+) -> Result<Opened, Refusal>
+    requires graph { graph.now ≡ counts.old.graph }
+    requires text { HasText graph.now }
+    requires from { length from.now ≤ longest_text }
+    requires to { length to.now ≤ longest_text }
+    ensures ok { IfOk result (HasOpened dir.now counts.old counts.new (L.holdings library.old) (L.holdings library.new)
+        caller (asked_of aliases.now from.now) (asked_of aliases.now to.now)) }
+    ensures err { IfErr result (HasRefused dir.now counts.old counts.new (L.holdings library.old) (L.holdings library.new)
+        caller (asked_of aliases.now from.now) (asked_of aliases.now to.now)) }
+    ensures steps { steps.new ≤ steps.old + length graph.now.edges }
+{
+    match counts.reserve() {
+        Ok(()) => {}
+        Err(why) => return Err(why),
+    }
+    let from = asked(aliases, from);
+    let to = asked(aliases, to);
+    match decide(alloc, counts, graph, library, dir, &from, &to, steps) {
+        Ok(opening) => {
+            let (number, tables) = enter_opening(counts, graph, caller, from, to, opening);
+            Ok(Opened { number, tables })
+        }
+        Err(why) => {
+            if is_memory(&why) {
+                return Err(why);
+            }
+            enter_refusal(alloc, counts, graph, caller, from, to, copied(&why));
+            Err(why)
+        }
+    }
+}
