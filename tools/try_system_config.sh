@@ -52,7 +52,7 @@ PY
 # tells whether each name that iconv(1) lists is bound, built in or told as left out
 names_told() {
     command -v iconv >/dev/null || return
-    iconv -l | tr ' ' '\n' | sed 's,//$,,; /^$/d' | sort -u >listed
+    iconv -l | tr -d '()' | tr ' ' '\n' | sed 's,//$,,; /^$/d' | sort -u >listed
     {
         awk '{ print $2; print $3 }' system/gconv-modules
         sed -n 's/^  //p' said | sed 's/: .*//' | tr -d '()' | tr ' ' '\n'
