@@ -17,13 +17,15 @@ LC_ALL=C
 QUOTING_STYLE=literal
 export LC_ALL QUOTING_STYLE
 unset CDPATH
+ME=${0##*/}
+export ME
 
 stop() {
-    echo "jobs.sh: $1" >&2
+    echo "$ME: $1" >&2
     exit 2
 }
 
-[ $# -eq 4 ] || [ $# -eq 5 ] || stop 'usage: tools/jobs.sh FROM TO INDIR OUTDIR [MOST]'
+[ $# -eq 4 ] || [ $# -eq 5 ] || stop "usage: $0 FROM TO INDIR OUTDIR [MOST]"
 FROM=$1 TO=$2 IN=${3%/} OUT=${4%/} MOST=${5-4096}
 export FROM TO IN OUT MOST
 case $FROM in '' | '#'* | *[[:space:]]*) stop "FROM is '$FROM': it is empty, has a blank or begins with #" ;; esac
@@ -48,7 +50,7 @@ trap 'rm -rf "$work"' EXIT
 trap 'exit 2' HUP INT TERM
 
 (cd -- "$IN" && find . -type f -path '*[[:space:]]*' -exec sh -c '
-    for name; do echo "jobs.sh: left out, since its name has a blank: $IN/${name#./}"; done' sh {} +) \
+    for name; do echo "$ME: left out, since its name has a blank: $IN/${name#./}"; done' sh {} +) \
     >"$work/left" || stop "$IN can't be read whole"
 (cd -- "$IN" && find . -type f ! -path '*[[:space:]]*' -exec ls -ln {} +) >"$work/found" ||
     stop "$IN can't be read whole"
@@ -66,7 +68,7 @@ BEGIN {
 {
     name = substr($NF, 3)
     if ((ENVIRON["IN"] name ENVIRON["OUT"]) !~ text) {
-        print "jobs.sh: left out, since its name is not UTF-8: " ENVIRON["IN"] "/" name >(work "/left2")
+        print ENVIRON["ME"] ": left out, since its name is not UTF-8: " ENVIRON["IN"] "/" name >(work "/left2")
         next
     }
     print $5, name
@@ -108,5 +110,5 @@ BEGIN { most = ENVIRON["MOST"] + 0; list = ENVIRON["OUT"] ".jobs"; number = 1; p
     print ENVIRON["FROM"], ENVIRON["TO"], ENVIRON["IN"] "/" $2, ENVIRON["OUT"] "/" $2 >list
 }' || stop "the lists $OUT.jobs and so on can't be written"
 jobs=$(wc -l <"$work/named")
-echo "jobs.sh: $((jobs)) jobs, $(wc -l <"$work/left" | tr -d ' ') files left out" >&2
+echo "$ME: $((jobs)) jobs, $(wc -l <"$work/left" | tr -d ' ') files left out" >&2
 [ "$jobs" -gt 0 ] && [ ! -s "$work/left" ]

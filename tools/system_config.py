@@ -61,7 +61,7 @@ def bare(name):
 
 
 def stop(text):
-    print(f"system_config.py: {text}", file=sys.stderr)
+    print(f"{os.path.basename(sys.argv[0])}: {text}", file=sys.stderr)
     sys.exit(1)
 
 
@@ -412,7 +412,7 @@ def main():
     if os.path.isdir(f"{given.into}/charmaps") and os.path.samefile(f"{given.into}/charmaps", given.charmaps):
         stop(f"{given.into}/charmaps are the charmaps that are read: give another folder to --into")
     if not glob.glob(f"{gconv}/gconv-modules.d/*.conf"):
-        print(f"system_config.py: there is no {gconv}/gconv-modules.d; where the system has a package "
+        print(f"{os.path.basename(sys.argv[0])}: there is no {gconv}/gconv-modules.d; where the system has a package "
               "libc-gconv-modules-extra, most charsets are in it: apt-get install libc-gconv-modules-extra",
               file=sys.stderr)
     sets, between, aliases = read_conf(gconv)
