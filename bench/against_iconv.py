@@ -1,7 +1,7 @@
 #!/usr/bin/env python3
 """Compares the program with the system's iconv(1) on the whole repertoire of each charset of a configuration.
 
-    bench/against_iconv.py [--program PROGRAM] [--config DIR]
+    bench/against_iconv.py [--program PROGRAM] [--config DIR] [--below POINT]
 
 PROGRAM is out/iconv_batch where none is given. DIR is a folder as tools/system_config.py makes it; where none is given,
 one is made of the system's charsets. One run of the program converts, for each charset,
@@ -10,7 +10,8 @@ one is made of the system's charsets. One run of the program converts, for each 
   points    all its points, from UTF-8
   more      the codes of at most two bytes, and those of the charmap's %IRREVERSIBLE% lines, that iconv reads
             besides, to UTF-8; for ISO-2022-JP some codes of its later forms
-  besides   the points that iconv writes besides, from UTF-8
+  besides   the points that iconv writes besides, from UTF-8; they are looked for below POINT, a decimal number, or
+            among all
   cut       the proper prefixes of some of its longer codes, to UTF-8
 
 and iconv(1) converts the same files. A file counts as the same where both give the same bytes and stop at the same
@@ -27,7 +28,6 @@ cause. Where iconv, the charmaps or the program's long form are missing, it is s
 """
 import argparse
 import ctypes
-import errno
 import os
 import re
 import shutil
@@ -43,7 +43,6 @@ from system_config import BLANKS, Fault, code_of, header, normal, read_charmap, 
 PLAIN, ROMAN, OLD_KANJI, KANJI = b"\x1b(B", b"\x1b(J", b"\x1b$@", b"\x1b$B"
 # Kana, the later Kanji, Chinese and Korean, as ISO-2022-JP-2 and others have them.
 LATER = [b"\x1b(I1", b"\x1b$(D0!", b"\x1b$A0!", b"\x1b$(C0!"]
-POINTS = [it for it in range(0x110000) if not 0xD800 <= it < 0xE000]
 BLOCK, MOST_SHOWN = 4096, 4
 
 
@@ -184,7 +183,7 @@ class File:
         self.should = should
 
 
-def files_of(charset):
+def files_of(charset, all_points):
     """The files of one charset."""
     points, codes = sorted(charset.codes), sorted(charset.points)
     yield File(charset, "codes", codes, (utf8(charset.points[it] for it in codes), "ok"))
@@ -192,7 +191,7 @@ def files_of(charset):
     more = charset.more(Library(charset.name, "UTF-8"))
     if more:
         yield File(charset, "more", more, (b"", None))
-    others = besides(charset, POINTS)
+    others = besides(charset, all_points)
     if others:
         yield File(charset, "besides", others, (b"", "illegal at 0"))
     prefixes = sorted(charset.prefixes)
@@ -252,8 +251,8 @@ def causes(it, mine, other, folder):
         told = f", {len(marked)} of them marked %IRREVERSIBLE%" if marked else ""
         return [f"more: {len(it.units)}{told}: {shown(it.units)}"] * (other[1] == "ok" and not mine[0])
     if it.kind == "cut":
-        words = {text.split()[0] for text in (mine[1], other[1])}
-        return [f"cut: {it.text.hex()}: the program says {mine[1]}, iconv {other[1]}"] * (words == {"incomplete", "illegal"})
+        is_named = {text.split()[0] for text in (mine[1], other[1])} == {"incomplete", "illegal"}
+        return [f"cut: {it.text.hex()}: the program says {mine[1]}, iconv {other[1]}"] * is_named
     library = Library(*it.ends)
 
     def text_of(unit):
@@ -288,10 +287,11 @@ def spelled(charset, kind, units):
     return charset.spelled(units) if kind == "points" else utf8(map(charset.points.get, units))
 
 
-def compare(program, config, folder):
+def compare(program, config, folder, below):
+    all_points = [it for it in range(below) if not 0xD800 <= it < 0xE000]
     sets, files, faults, differences, unnamed = list(charsets(config)), [], 0, 0, 0
     for charset in sets:
-        files += files_of(charset)
+        files += files_of(charset, all_points)
     for number, (it, mine) in enumerate(zip(files, ours(program, config, files, folder))):
         name = f"{' to '.join(it.ends)}, {it.kind}"
         if mine[0] != it.should[0] or it.should[1] not in (None, mine[1]):
@@ -315,6 +315,7 @@ def main():
     words = argparse.ArgumentParser(description=__doc__.partition("\n")[0])
     words.add_argument("--program", default=f"{TOP}/out/iconv_batch")
     words.add_argument("--config", metavar="DIR")
+    words.add_argument("--below", metavar="POINT", type=int, default=0x110000)
     given = words.parse_args()
     if not shutil.which("iconv"):
         skip("iconv is missing (apt-get install libc-bin)")
@@ -334,7 +335,7 @@ def main():
             if made.returncode != 0:
                 skip(made.stderr.strip())
             print(made.stdout.partition("\n")[0])
-        return compare(program, config, folder)
+        return compare(program, config, folder, given.below)
 
 
 if __name__ == "__main__":

@@ -15,12 +15,12 @@ program=${1-$top/out/iconv_batch}
 files=${FILES:-20000}
 for tool in parallel python3; do
     command -v $tool >/dev/null || {
-        echo "skipped: $tool is missing (apt-get install $tool)"
+        echo "skipped: scale_demo.sh: $tool is missing (apt-get install $tool)"
         exit 0
     }
 done
 if [ ! -x "$program" ]; then
-    echo "skipped: there is no program at $program (./wensibag builds it)"
+    echo "skipped: scale_demo.sh: there is no program at $program (./wensibag builds it)"
     exit 0
 fi
 ICONV_BATCH=$(cd -- "$(dirname -- "$program")" && pwd)/$(basename -- "$program")
@@ -49,7 +49,7 @@ TXT
 : >none.jobs
 tools/run_list.sh charsets none.jobs 2>/dev/null
 if [ $? -ne 0 ] || [ "$(cat none.jobs.report)" != 'jobs 0 ok 0 failed 0 read 0 written 0' ]; then
-    echo 'skipped: the program has no long form'
+    echo 'skipped: scale_demo.sh: the program has no long form'
     exit 0
 fi
 
