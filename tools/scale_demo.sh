@@ -1,6 +1,6 @@
 #!/bin/sh
 # Converts many small files as docs/SCALE.md says, in lists of 500 by GNU parallel, and once more in lists
-# of 4,096 one after another; outputs and sums must be the same.
+# of 4,096 one after another; outputs and sums must be the same. One list is repeated as after a failure.
 #
 #   tools/scale_demo.sh [PROGRAM]
 #
@@ -65,7 +65,19 @@ BEGIN {
 }' || exit 2
 
 tools/jobs.sh LATIN1 UTF-8 latin1 utf8 500 >lists 2>told || { cat told; exit 2; }
-parallel --joblog log tools/run_list.sh charsets {} --workers 0 :::: lists >told 2>&1
+run_all() {
+    parallel --joblog log tools/run_list.sh charsets {} --workers 0 :::: lists >told 2>&1
+}
+run_all
+# the first list is left as by a run that was stopped: with an output that is cut off, and no report
+: >"$(sed -n '1s/.* //p' utf8.jobs)"
+rm utf8.jobs.report
+tools/sum_reports.py lists >sums 2>told
+if [ $? -ne 2 ] || ! grep -q 'run utf8.jobs again' told; then
+    echo 'scale_demo.sh: a list without a report is not told'
+    exit 1
+fi
+run_all
 tools/sum_reports.py lists >sums
 
 tools/jobs.sh LATIN1 UTF-8 latin1 plain >plain_lists 2>told || { cat told; exit 2; }
