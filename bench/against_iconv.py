@@ -9,7 +9,7 @@ one is made of the system's charsets. One run of the program converts, for each 
   codes     all codes of its table, to UTF-8
   points    all its points, from UTF-8
   more      the codes of at most two bytes, and those of the charmap's %IRREVERSIBLE% lines, that iconv reads
-            besides, to UTF-8; for ISO-2022-JP some codes of its later forms
+            besides, to UTF-8; for ISO-2022-JP some escapes of its later forms
   besides   the points that iconv writes besides, from UTF-8; they are looked for below POINT, a decimal number, or
             among all
   cut       the proper prefixes of some of its longer codes, to UTF-8
@@ -17,10 +17,12 @@ one is made of the system's charsets. One run of the program converts, for each 
 and iconv(1) converts the same files. A file counts as the same where both give the same bytes and stop at the same
 place or not at all. Each other one is listed with its cause, which is looked for code by code with iconv(3):
 
-  more      iconv has codes or points that the charmap hasn't, or has on lines that count for one way alone
+  more      iconv has codes that the charmap hasn't, or has on lines that count for one way alone
+  alike     iconv writes a point that the charmap hasn't as the code of another point
+  composing iconv reads one code as several points, writes one point as several codes, or puts neighbours together
+  escape    iconv takes the byte 1B for a character where no escape of the set begins
   fewer     iconv lacks a code or a point of the charmap
   other     iconv has another point or another code there
-  composing iconv puts codes or points that stand side by side together, or holds them apart
   cut       one says incomplete where the other says illegal
 
 What the program makes must also be what the charmap says. The status is 1 where it isn't, or where a difference has no
@@ -38,7 +40,7 @@ import tempfile
 TOP = os.path.dirname(os.path.dirname(os.path.realpath(__file__)))
 sys.dont_write_bytecode = True
 sys.path.insert(0, f"{TOP}/tools")
-from system_config import BLANKS, Fault, code_of, header, normal, read_charmap, words_of  # noqa: E402
+from system_config import BLANKS, Fault, code_of, header, normal, read_charmap, span_of, words_of  # noqa: E402
 
 PLAIN, ROMAN, OLD_KANJI, KANJI = b"\x1b(B", b"\x1b(J", b"\x1b$@", b"\x1b$B"
 # Kana, the later Kanji, Chinese and Korean, as ISO-2022-JP-2 and others have them.
@@ -87,18 +89,24 @@ class Table:
         for point, code in read_charmap(text):
             self.points.setdefault(code, point)
             self.codes.setdefault(point, code)
-        self.passed = passed_over(text) - set(self.points)
+        self.marked = marked_in(text)
         self.prefixes = {code[:it] for code in self.points for it in range(1, len(code))}
 
     def spelled(self, points):
         return b"".join(map(self.codes.get, points))
+
+    def are_codes(self, text):
+        """Whether bytes are codes of the table, one behind the other."""
+        at = next((it for it in range(1, 5) if text[:it] in self.points), None)
+        return not text or (at is not None and self.are_codes(text[at:]))
 
     def more(self, library):
         """The codes that iconv reads and the table hasn't."""
         ones = [bytes([it]) for it in range(256)]
         starts = [it for it in ones if it not in self.points]
         twos = [it + second for it in starts for second in ones]
-        found = [it for it in [*starts, *sorted(self.passed), *twos] if it not in self.points and library(it)]
+        marked = sorted(it for it in self.marked if isinstance(it, bytes))
+        found = [it for it in [*starts, *marked, *twos] if it not in self.points and library(it)]
         whole = set(found)
         return sorted(it for it in whole if not any(it[:at] in whole for at in range(1, len(it))))
 
@@ -107,7 +115,7 @@ class Japanese(Table):
     """ISO-2022-JP: each code with the escape before it and the one behind it."""
 
     def __init__(self, name, roman, kanji):
-        self.name, self.passed = name, set()
+        self.name, self.marked = name, set()
         tables = Table(name, roman), Table(name, kanji)
         units = [(bytes([it]), it) for it in range(128) if it != 0x1B]
         for escape, table, length in ((ROMAN, tables[0], 1), (KANJI, tables[1], 2), (OLD_KANJI, tables[1], 2)):
@@ -132,13 +140,15 @@ class Japanese(Table):
         return [it for it in LATER if library(it)]
 
 
-def passed_over(text):
-    """The codes of a charmap's %IRREVERSIBLE% lines."""
+def marked_in(text):
+    """The codes and the points of a charmap's %IRREVERSIBLE% lines."""
     lines = text.split(b"\n")
     escape, _, start = header(lines)
     marked = [words_of(it.lstrip(b" \t").partition(b"%IRREVERSIBLE%")[2]) for it in lines[start:]
               if BLANKS.sub(b"", it).startswith(b"%IRREVERSIBLE%")]
-    return {code_of(code, escape) for _, code in marked if code} - {None}
+    points = {point for span in map(span_of, (first for first, _ in marked)) if span
+              for point in range(span[0], span[1] + 1)}
+    return points | {code_of(code, escape) for _, code in marked if code} - {None}
 
 
 def utf8(points):
@@ -243,13 +253,29 @@ def shown(units):
     return " ".join([*found, "..."] if len(units) > MOST_SHOWN else found)
 
 
+def more_causes(it):
+    """Why iconv converts codes or points that the charmap hasn't."""
+    library, found = Library(*it.ends), {}
+    for unit in it.units:
+        made = library(utf8([unit]) if it.is_written else unit)
+        if unit == 0x1B and isinstance(it.charset, Japanese):
+            word = "escape"
+        elif it.is_written:
+            word = "alike" if made in it.charset.points else "composing" if it.charset.are_codes(made) else "more"
+        else:
+            word = "escape" if made == unit else "composing" if len(made.decode()) > 1 else "more"
+        found.setdefault(word, []).append(unit)
+    for word, units in found.items():
+        marked = len(it.charset.marked.intersection(units))
+        told = f", {marked} of them marked %IRREVERSIBLE%" if marked else ""
+        yield f"{word}: {len(units)}{told}: {shown(units)}"
+
+
 def causes(it, mine, other, folder):
     """The causes of a difference in a file, in words; none where they don't explain all of it."""
     charset = it.charset
     if it.kind in ("more", "besides"):
-        marked = [unit for unit in it.units if unit in charset.passed]
-        told = f", {len(marked)} of them marked %IRREVERSIBLE%" if marked else ""
-        return [f"more: {len(it.units)}{told}: {shown(it.units)}"] * (other[1] == "ok" and not mine[0])
+        return list(more_causes(it)) if other[1] == "ok" and not mine[0] else []
     if it.kind == "cut":
         is_named = {text.split()[0] for text in (mine[1], other[1])} == {"incomplete", "illegal"}
         return [f"cut: {it.text.hex()}: the program says {mine[1]}, iconv {other[1]}"] * is_named
