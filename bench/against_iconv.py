@@ -40,7 +40,7 @@ import tempfile
 TOP = os.path.dirname(os.path.dirname(os.path.realpath(__file__)))
 sys.dont_write_bytecode = True
 sys.path.insert(0, f"{TOP}/tools")
-from system_config import BLANKS, Fault, code_of, header, normal, read_charmap, span_of, words_of  # noqa: E402
+from system_config import Fault, code_of, header, normal, read_charmap, span_of, words_of  # noqa: E402
 
 PLAIN, ROMAN, OLD_KANJI, KANJI = b"\x1b(B", b"\x1b(J", b"\x1b$@", b"\x1b$B"
 # Kana, the later Kanji, Chinese and Korean, as ISO-2022-JP-2 and others have them.
@@ -144,8 +144,8 @@ def marked_in(text):
     """The codes and the points of a charmap's %IRREVERSIBLE% lines."""
     lines = text.split(b"\n")
     escape, _, start = header(lines)
-    marked = [words_of(it.lstrip(b" \t").partition(b"%IRREVERSIBLE%")[2]) for it in lines[start:]
-              if BLANKS.sub(b"", it).startswith(b"%IRREVERSIBLE%")]
+    marked = [words_of(it.partition(b"%IRREVERSIBLE%")[2]) for it in lines[start:]
+              if it.lstrip().startswith(b"%IRREVERSIBLE%")]
     points = {point for span in map(span_of, (first for first, _ in marked)) if span
               for point in range(span[0], span[1] + 1)}
     return points | {code_of(code, escape) for _, code in marked if code} - {None}

@@ -12,6 +12,7 @@ prints how many charsets and names are bound, and why each other one isn't, with
 """
 import argparse
 import collections
+import functools
 import glob
 import gzip
 import os
@@ -37,7 +38,6 @@ LIBRARY_ALIASES = {
 LIBRARY_SETS = ["ISO-10646/UCS2/", "UCS-2LE//", "UCS-2BE//", "UCS-4LE//", "WCHAR_T//"]
 JP, ROMAN, KANJI = "ISO-2022-JP//", "JIS_X0201-ROMAN", "JIS_X0208"
 LIMIT, MOST_PAIRS, MOST_LINES = 16_777_216, 2_097_152, 16_384
-BLANKS = re.compile(rb"[\t\v\f\r ]+")
 SYMBOL = rb"<U([0-9A-Fa-f]{4}|[0-9A-Fa-f]{8})>"
 SPAN = re.compile(SYMBOL + rb"(?:\.{2,3}" + SYMBOL + rb")?")
 WORD = re.compile(r"[A-Za-z0-9_\-,:+()][A-Za-z0-9_\-.,:+()]{0,63}")
@@ -117,14 +117,18 @@ def resolved(pairs):
 
 
 def words_of(line):
-    found = [it for it in BLANKS.split(line) if it]
-    return (found + [b"", b""])[:2]
+    """The first two words of a line, empty where there are fewer."""
+    return (line.split(None, 2) + [b"", b""])[:2]
+
+
+@functools.lru_cache(None)
+def spelled_byte(escape):
+    return re.compile(re.escape(escape) + rb"(?:x([0-9A-Fa-f]{2})|d([0-9]{2,3})|([0-7]{2,3}))")
 
 
 def code_of(word, escape):
     """The bytes that a code's word spells; None where it spells none."""
-    sign, code, at = re.escape(escape), bytearray(), 0
-    byte = re.compile(sign + rb"(?:x([0-9A-Fa-f]{2})|d([0-9]{2,3})|([0-7]{2,3}))")
+    byte, code, at = spelled_byte(escape), bytearray(), 0
     while at < len(word):
         found = byte.match(word, at)
         if not found:
