@@ -31,5 +31,7 @@ refuses 's/^\.Op Fl -journal/.Fl -journal/' "the synopsis hasn't the usage line"
 refuses 's/^\.It Fl -jobs/.It Fl -modules/' 'OPTIONS tells --modules twice'
 if command -v mandoc >/dev/null; then
     mandoc -T lint -W warning "$page" || failed=1
+else
+    echo 'skipped: mandoc is missing, so nothing looks at the macros of the man page'
 fi
 exit $failed

@@ -51,7 +51,10 @@ PY
 
 # tells whether each name that iconv(1) lists is bound, built in or told as left out
 names_told() {
-    command -v iconv >/dev/null || return
+    command -v iconv >/dev/null || {
+        echo 'skipped: iconv is missing, so nothing looks at the names that it lists'
+        return
+    }
     iconv -l | tr -d '()' | tr ' ' '\n' | sed 's,//$,,; /^$/d' | sort -u >listed
     {
         awk '{ print $2; print $3 }' system/gconv-modules
