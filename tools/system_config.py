@@ -7,10 +7,12 @@ DIR (./charsets where none is given) gets the files gconv-modules and bindings a
 docs/FORMATS.md says. They are made from the GNU C Library's gconv-modules with its gconv-modules.d and from the
 charmaps of the package locales. A charset gets the charmap that has its name, or else the one that has a name in
 common with it; a charset whose charmap isn't there, or has a fault, is left out. Each charset gets a module word of its
-own, so that none is bound to another one's table. It prints how many are bound and why each other one isn't.
+own, so that none is bound to another one's table. A charmap that was shipped without its line CHARMAP is mended. It
+prints how many charsets and names are bound, and why each other one isn't, with its aliases in parentheses.
 """
 import argparse
 import collections
+import functools
 import glob
 import gzip
 import os
@@ -26,12 +28,16 @@ LIBRARY_ALIASES = {
     "UTF-8//": "ISO-10646/UTF8/ ISO-10646/UTF-8/ ISO-IR-193// OSF05010001//",
     "UCS-4//": "ISO-10646/UCS4/ UCS-4BE// CSUCS4// ISO-10646// 10646-1:1993// 10646-1:1993/UCS4/ OSF00010104// "
                "OSF00010105// OSF00010106//",
-    "ASCII//": "ANSI_X3.4-1968// ANSI_X3.4-1986// ISO-IR-6// ISO_646.IRV:1991// ISO646-US// US// IBM367// CP367// "
-               "CSASCII// OSF00010020//",
+    "ASCII//": "ANSI_X3.4// ANSI_X3.4-1968// ANSI_X3.4-1986// ISO-IR-6// ISO_646.IRV:1991// ISO646-US// US// IBM367// "
+               "CP367// CSASCII// OSF00010020//",
+    "ISO-10646/UCS2/": "UCS2// UCS-2// OSF00010100// OSF00010101// OSF00010102//",
+    "UCS-2LE//": "UNICODELITTLE//",
+    "UCS-2BE//": "UNICODEBIG//",
 }
+# Its own charsets that aren't built in here.
+LIBRARY_SETS = ["ISO-10646/UCS2/", "UCS-2LE//", "UCS-2BE//", "UCS-4LE//", "WCHAR_T//"]
 JP, ROMAN, KANJI = "ISO-2022-JP//", "JIS_X0201-ROMAN", "JIS_X0208"
 LIMIT, MOST_PAIRS, MOST_LINES = 16_777_216, 2_097_152, 16_384
-BLANKS = re.compile(rb"[\t\v\f\r ]+")
 SYMBOL = rb"<U([0-9A-Fa-f]{4}|[0-9A-Fa-f]{8})>"
 SPAN = re.compile(SYMBOL + rb"(?:\.{2,3}" + SYMBOL + rb")?")
 WORD = re.compile(r"[A-Za-z0-9_\-,:+()][A-Za-z0-9_\-.,:+()]{0,63}")
@@ -55,7 +61,7 @@ def bare(name):
 
 
 def stop(text):
-    print(f"system_config.py: {text}", file=sys.stderr)
+    print(f"{os.path.basename(sys.argv[0])}: {text}", file=sys.stderr)
     sys.exit(1)
 
 
@@ -111,14 +117,18 @@ def resolved(pairs):
 
 
 def words_of(line):
-    found = [it for it in BLANKS.split(line) if it]
-    return (found + [b"", b""])[:2]
+    """The first two words of a line, empty where there are fewer."""
+    return (line.split(None, 2) + [b"", b""])[:2]
+
+
+@functools.lru_cache(None)
+def spelled_byte(escape):
+    return re.compile(re.escape(escape) + rb"(?:x([0-9A-Fa-f]{2})|d([0-9]{2,3})|([0-7]{2,3}))")
 
 
 def code_of(word, escape):
     """The bytes that a code's word spells; None where it spells none."""
-    sign, code, at = re.escape(escape), bytearray(), 0
-    byte = re.compile(sign + rb"(?:x([0-9A-Fa-f]{2})|d([0-9]{2,3})|([0-7]{2,3}))")
+    byte, code, at = spelled_byte(escape), bytearray(), 0
     while at < len(word):
         found = byte.match(word, at)
         if not found:
@@ -201,12 +211,20 @@ def read_charmap(text):
             raise Fault(f"line {number}: too many pairs")
     else:
         raise Fault(f"line {len(lines)}: no end")
-    codes = {code for _, code in pairs}
-    for code in sorted(codes):
-        for length in range(1, len(code)):
-            if code[:length] in codes:
-                raise Fault(f"overlap: the code {code[:length].hex()} begins {code.hex()}")
+    codes = sorted({code for _, code in pairs})
+    for code, after in zip(codes, codes[1:]):
+        if after.startswith(code):
+            raise Fault(f"overlap: the code {code.hex()} begins {after.hex()}")
     return pairs
+
+
+def mended(text):
+    """A charmap text with a header in place of its own, where it has mapping lines and no line CHARMAP; else None."""
+    start = re.search(rb"(?m)^<U[0-9A-Fa-f]{4,8}>[ \t]+/", text)
+    if not start or re.search(rb"(?m)^CHARMAP\b", text):
+        return None
+    end = b"" if re.search(rb"(?m)^END[ \t]+CHARMAP\b", text) else b"END CHARMAP\n"
+    return b"<escape_char> /\n<comment_char> %\nCHARMAP\n" + text[start.start():].rstrip(b"\n") + b"\n" + end
 
 
 def names_in(text):
@@ -220,7 +238,7 @@ class Shipped:
     """The system's charmaps, by file name, and which of them have a name."""
 
     def __init__(self, folder):
-        self.texts, self.files, self.others = {}, {}, collections.defaultdict(list)
+        self.texts, self.files, self.others, self.mended = {}, {}, collections.defaultdict(list), set()
         for path in sorted(glob.glob(f"{folder}/*")):
             name = re.sub(r"\.gz$", "", os.path.basename(path))
             with gzip.open(path) if path.endswith(".gz") else open(path, "rb") as file:
@@ -228,6 +246,9 @@ class Shipped:
             self.files.setdefault(normal(name), name)
             for other in names_in(self.texts[name]):
                 self.others[other].append(name)
+            if mended(self.texts[name]):
+                self.texts[name] = mended(self.texts[name])
+                self.mended.add(name)
         self.read = {}
 
     def charmap_for(self, name, aliases):
@@ -294,7 +315,7 @@ class Made:
 
 def why_alone(name, lines):
     """Why a charset without a charmap isn't bound, in words."""
-    if lines["module"] in ("UTF-16", "UTF-32", "UTF-7", "UNICODE") or name.startswith("ISO-10646/"):
+    if lines["module"] in ("UTF-16", "UTF-32", "UTF-7", "UNICODE", "gconv") or name.startswith("ISO-10646/"):
         return "a form of Unicode that isn't built in"
     if name.startswith("ISO-2022"):
         return "its escapes choose other sets than those of ISO-2022-JP"
@@ -330,14 +351,17 @@ def make(sets, between, aliases, shipped):
             taken[charmap] = name
             made.charmaps[charmap] = shipped.texts[charmap]
             made.bind(name, lines, f"table {charmap}")
+    for name in LIBRARY_SETS:
+        if name not in sets:
+            made.left.append((name, why_alone(name, {"module": "gconv"})))
     for source, target, module in between:
         made.left.append((f"{source} to {target}", f"{module}: its own table isn't shipped"))
     return made
 
 
 def alias_lines(made, aliases, sets):
-    """The aliases of what is bound or built in, each straight to it, and those that stand for nothing here."""
-    known, lines, lost = {*made.sets, *BUILT_IN}, [], []
+    """The aliases of what is bound or built in, each straight to it, and those of each charset that is left out."""
+    known, lines, lost = {*made.sets, *BUILT_IN}, [], collections.defaultdict(list)
     pairs = [(it, name) for name, all_names in LIBRARY_ALIASES.items() for it in all_names.split()] + aliases
     for alias, name in resolved(pairs).items():
         if alias in sets or alias in known:
@@ -345,7 +369,7 @@ def alias_lines(made, aliases, sets):
         if name in known:
             lines.append(f"alias {alias} {name}")
         else:
-            lost.append(alias)
+            lost[name].append(alias)
     return lines, lost
 
 
@@ -360,15 +384,20 @@ def write(folder, made, aliases):
             file.write(text)
 
 
-def tell(folder, made, aliases, lost):
+def tell(folder, made, aliases, lost, mended_ones):
     both = sum(len(ways) == 2 for ways in made.sets.values())
     built_in = len(BUILT_IN)
     print(f"{both + built_in} sets both ways, {built_in} of them built in, and {len(made.sets) - both} in one way, by "
           f"{len(made.charmaps)} charmaps")
     print(f"{len(made.sets) + built_in + len(aliases)} names, {len(aliases)} of them aliases")
-    print(f"left out, with {len(lost)} aliases: {len(made.left)}")
+    for name in sorted(mended_ones & {*made.charmaps}):
+        print(f"mended: charmap {name}: its line CHARMAP is missing")
+    print(f"left out, with {sum(map(len, lost.values()))} aliases: {len(made.left)}")
     for name, why in made.left:
-        print(f"  {bare(name)}: {why}")
+        also = " ".join(bare(it) for it in lost.pop(name, ()))
+        print(f"  {bare(name)}{f' ({also})' if also else ''}: {why}")
+    for name, also in lost.items():
+        print(f"  {' '.join(bare(it) for it in also)}: stands for {bare(name)}, which isn't there")
     print(f"written: {folder}/gconv-modules, {folder}/bindings, {folder}/charmaps")
 
 
@@ -386,13 +415,18 @@ def main():
         stop(f"there are no charmaps in {given.charmaps}: apt-get install locales")
     if os.path.isdir(f"{given.into}/charmaps") and os.path.samefile(f"{given.into}/charmaps", given.charmaps):
         stop(f"{given.into}/charmaps are the charmaps that are read: give another folder to --into")
+    if not glob.glob(f"{gconv}/gconv-modules.d/*.conf"):
+        print(f"{os.path.basename(sys.argv[0])}: there is no {gconv}/gconv-modules.d; where the system has a package "
+              "libc-gconv-modules-extra, most charsets are in it: apt-get install libc-gconv-modules-extra",
+              file=sys.stderr)
     sets, between, aliases = read_conf(gconv)
-    made = make(sets, between, aliases, Shipped(given.charmaps))
+    shipped = Shipped(given.charmaps)
+    made = make(sets, between, aliases, shipped)
     lines, lost = alias_lines(made, aliases, sets)
     if max(len(lines), len(made.modules), len(made.bindings)) > MOST_LINES:
         stop(f"more than {MOST_LINES} lines of one kind")
     write(given.into, made, lines)
-    tell(given.into, made, lines, lost)
+    tell(given.into, made, lines, lost, shipped.mended)
     return 0
 
 

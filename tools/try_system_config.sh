@@ -49,6 +49,24 @@ if len(bound) != len(bindings) or len(bound) < least:
 PY
 }
 
+# tells whether each name that iconv(1) lists is bound, built in or told as left out
+names_told() {
+    command -v iconv >/dev/null || {
+        echo 'skipped: iconv is missing, so nothing looks at the names that it lists'
+        return
+    }
+    iconv -l | tr -d '()' | tr ' ' '\n' | sed 's,//$,,; /^$/d' | sort -u >listed
+    {
+        awk '{ print $2; print $3 }' system/gconv-modules
+        sed -n 's/^  //p' said | sed 's/: .*//' | tr -d '()' | tr ' ' '\n'
+        printf '%s\n' ASCII US-ASCII UTF-8 UTF8 UTF-16 UTF16 UTF-16LE UTF-16BE UCS-4 UCS4
+    } | sed 's,//$,,' | sort -u >told
+    comm -23 listed told >untold
+    [ -s untold ] || return
+    echo "system_config.py: it doesn't tell of $(tr '\n' ' ' <untold)"
+    failed=1
+}
+
 # a charmap with this name, these further lines and some aliases in its comments
 charmap() {
     {
@@ -74,6 +92,8 @@ module SET-TWO// INTERNAL SHARED 2
 module INTERNAL SET-TWO// SHARED 2
 module SET-LOST// INTERNAL SHARED 2
 module INTERNAL SET-LOST// SHARED 2
+module SET-BARE// INTERNAL BARE 1
+module INTERNAL SET-BARE// BARE 1
 module UTF-16// INTERNAL UTF-16 1
 TXT
 cat >small/gconv/gconv-modules.d/more.conf <<'TXT'
@@ -86,13 +106,16 @@ TXT
 charmap SET-ONE '<U0041>..<U0043> /x41 THREE\n%%IRREVERSIBLE%%<U0044> /x44\n' ''
 charmap OTHER '<U00000100> /d255/377\n' 'SET-TWO'
 charmap SET-OVER '<U0041> /x41\n<U0042> /x41/x42\n' ''
+printf '<U0041> /x41\n<U0042> /x42\n' >small/charmaps/SET-BARE
 charmap JIS_X0201 '<U0041> /x41\n<U00A5> /x5c\n<UFF61> /xa1\n' ''
 charmap EUC-JP '<U0041> /x41\n<U4E9C> /xb0/xa1\n<U4E02> /x8f/xb0/xa1\n' ''
 
 "$here/system_config.py" --gconv small/gconv --charmaps small/charmaps --into made >said || failed=1
-judge made 3
-for line in '9 sets both ways, 6 of them built in, and 0 in one way, by 4 charmaps' \
-    'SET-LOST: no charmap of that name is shipped' \
+judge made 4
+for line in '10 sets both ways, 6 of them built in, and 0 in one way, by 5 charmaps' \
+    'SET-LOST (LOST): no charmap of that name is shipped' \
+    'mended: charmap SET-BARE: its line CHARMAP is missing' \
+    "UCS-2LE (UNICODELITTLE): a form of Unicode that isn't built in" \
     'SET-OVER: charmap SET-OVER: overlap: the code 41 begins 4142' \
     "ISO-2022-JP-2: its escapes choose other sets than those of ISO-2022-JP"; do
     grep -q -F "$line" said || {
@@ -124,8 +147,9 @@ grep -q 'apt-get install locales' said || {
 
 if [ -f /usr/share/i18n/charmaps/EUC-JP.gz ]; then
     "$here/system_config.py" --into system >said || failed=1
-    judge system 190
+    judge system 198
     head -n 1 said
+    names_told
 else
     echo "skipped: this system's charmaps are missing (apt-get install locales)"
 fi
