@@ -8,8 +8,6 @@ mod relax;
 mod search;
 mod step;
 mod table;
-#[cfg(test)]
-mod tests;
 mod trace;
 
 pub use chain::{Chain, Ordinals};

@@ -1,6 +1,7 @@
 -- The lines of a text, read one after another.
 use Rattle.std.proofs.Common.{◌≡◌, ℕ, ◌+◌, ◌≤◌, Bool, true, false, eqb, nat_eq, List, [], ◌∷◌, ◌++◌, length, Option, Some, None, Result, Ok, Err, refl, sym, ap, ◌∙◌, inl, inr, arith, append_assoc, append-nil, length-append, add-zero}
 use Rattle.std.specs.Option.{option_or}
+use Rattle.text_lines.specs.Limits.{longest_text}
 use Rattle.std.proofs.lemmas.Bool.{cases_Bool, le-ltb}
 use Rattle.std.proofs.lemmas.List.{length-map}
 use Rattle.std.specs.List.{starts_with, slice_split}
@@ -201,9 +202,9 @@ length-lines text =
     )
 
 -- A text of few bytes that isn't compressed is read line by line.
-pub charmap_read : (text : List ℕ) → length text ≤ 16777216 →
+pub charmap_read : (text : List ℕ) → length text ≤ longest_text →
     starts_with nat_eq text (0x1F ∷ 0x8B ∷ []) ≡ false →
     charmap_of text ≡ scan_text text
 charmap_read text few plain =
-    rw (le-ltb 16777216 (length text) few, plain) (charmap_scanned (rows_of text)
+    rw (le-ltb longest_text (length text) few, plain) (charmap_scanned (rows_of text)
     ∙ ap (λ n. scan_header usual_signs n 1 (rows_of text)) (length-map (lines text) row_of))

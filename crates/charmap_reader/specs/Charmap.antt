@@ -2,6 +2,7 @@
 use Rattle.std.specs.Prelude.{ℕ, ◌+◌, Bool, if◌then◌else◌, nat_lt, nat_eq, List, [], ◌∷◌, ◌++◌, length, Option, Some, None, Result, Ok, Err}
 use Rattle.std.specs.List.{starts_with}
 use Rattle.std.specs.Option.{option_or}
+use Rattle.text_lines.specs.Limits.{longest_text}
 use Rattle.code_pairs.specs.declared.Pair.{Pair}
 use Rattle.charmap_reader.specs.Rows.{Row, rows_of}
 use Rattle.charmap_reader.specs.Header.{Signs, signs_behind, header_fault, is_start}
@@ -74,6 +75,6 @@ charmap_of_rows rows =
 -- What a charmap text stands for, or its first fault.
 abbrev pub charmap_of : List ℕ → Result (List Pair) MapFault
 charmap_of text =
-    if nat_lt 16777216 (length text) then Err (record { kind = TooLong; line = 0 })
+    if nat_lt longest_text (length text) then Err (record { kind = TooLong; line = 0 })
     else (if starts_with nat_eq text (0x1F ∷ 0x8B ∷ [])
     then Err (record { kind = Compressed; line = 0 }) else charmap_of_rows (rows_of text))

@@ -11,6 +11,7 @@ use crate::header::read_header;
 use crate::mapping::read_mapping;
 use code_pairs::Charmap;
 use std::alloc::Global;
+use text_lines::LONGEST_TEXT;
 
 /// A fault of a text as a whole.
 fn whole_fault(kind: MapKind) -> ReadFault
@@ -26,7 +27,7 @@ pub fn read_charmap(alloc: Global, text: &[u8]) -> Result<Charmap, ReadFault>
     ensures few { IfOk result (λ map. length map.pairs.items ≤ 2097152) }
     ensures err { IfErr result (λ fault. Fails fault (charmap_of text.now)) }
 {
-    if text.len() > 16_777_216 {
+    if text.len() > LONGEST_TEXT as usize {
         return Err(whole_fault(MapKind::TooLong));
     }
     if text.starts_with(&[0x1f, 0x8b]) {

@@ -11,8 +11,6 @@ mod mapping;
 mod members;
 mod row;
 mod signs;
-#[cfg(test)]
-mod tests;
 
 pub use charmap::read_charmap;
 pub use code_pairs::{Charmap, Code, Pair};

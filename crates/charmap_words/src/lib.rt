@@ -6,8 +6,6 @@ mod codes;
 mod digits;
 mod spelled;
 mod symbols;
-#[cfg(test)]
-mod tests;
 
 pub use codes::{CodeFault, read_code};
 pub use symbols::{Span, read_span};

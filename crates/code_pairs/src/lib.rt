@@ -7,8 +7,6 @@
 mod charmap;
 mod code;
 mod pair;
-#[cfg(test)]
-mod tests;
 
 pub use charmap::Charmap;
 pub use code::Code;

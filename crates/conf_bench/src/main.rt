@@ -19,11 +19,12 @@ mod report;
 
 use anyhow::{Context, Result, bail, ensure};
 use measure::measure;
-use modules_conf::{MOST_BYTES, MOST_LINES};
+use modules_conf::MOST_LINES;
 use std::alloc::Global;
 use std::marker::Brand;
 use std::rt::Files;
 use std::sync::ledger::Blank;
+use text_lines::LONGEST_TEXT;
 use std::{env, fs};
 
 /// A number of the command line, up to a limit.
@@ -76,7 +77,7 @@ fn main(rt: HostRuntime) -> Result<()> {
         words.push(word)?;
     }
     let (text, searches) = asked(&rt, alloc, &words)?;
-    ensure!(text.len() <= MOST_BYTES, "the text is too long");
+    ensure!(text.len() <= LONGEST_TEXT as usize, "the text is too long");
     let report = measure::<Brand>(Blank::new(1), alloc, &text, searches)?;
     println!(rt; "{report}")?;
     Ok(())

@@ -1,5 +1,6 @@
 //! The reader, the graph and the search, one after another.
 ghost use Rattle.std.specs.Prelude.{◌≡◌, ◌+◌, ◌*◌, ◌<◌, ◌≤◌, length, IfOk};
+ghost use Rattle.text_lines.specs.Limits.{longest_text};
 ghost use Rattle.conf_bench.specs.Counts.{CountsLines};
 
 use crate::bind::bindings_for;
@@ -7,7 +8,7 @@ use crate::report::Report;
 use anyhow::{Result, bail};
 use chain_search::least;
 use module_graph::Graph;
-use modules_conf::{ConfFault, MOST_BYTES, read_modules};
+use modules_conf::{ConfFault, read_modules};
 use std::alloc::{AllocError, Global};
 use std::sync::ledger::{Blank, Ledger};
 use work_steps::Steps;
@@ -49,7 +50,7 @@ pub fn measure<L: Ledger>(
     requires name { ledger.name ≡ L.name }
     requires parts { ledger.parts ≡ L.parts }
     requires some { 0 < ledger.parts }
-    requires text { length text.now ≤ MOST_BYTES }
+    requires text { length text.now ≤ longest_text }
     ensures { IfOk result (CountsLines text.now) }
 {
     let mut steps: Steps<L> = Steps::new(ledger);

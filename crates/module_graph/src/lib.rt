@@ -12,8 +12,6 @@ mod edge;
 mod graph;
 mod laws;
 mod rows;
-#[cfg(test)]
-mod tests;
 
 pub use edge::Edge;
 pub use graph::Graph;

@@ -8,7 +8,7 @@ use Rattle.modules_conf.specs.Charmaps.{names_charmaps}
 use Rattle.text_lines.specs.Words.{words}
 use Rattle.modules_conf.specs.Bindings.{Row, counts, rows_among, bound_name, binding_of, binding_unless, kind_of}
 use Rattle.modules_conf.specs.BindingRows.{is_name_of, with_row, unless_twice, continued, with_rows, Binds, RefusesRow}
-use Rattle.modules_conf.specs.declared.limits.TheConstants.{MOST_LINES}
+use Rattle.modules_conf.specs.Numbers.{most_lines}
 use Rattle.modules_conf.specs.declared.kind.Kind.{Kind}
 use Rattle.modules_conf.specs.declared.bindings.Binding.{Binding}
 use Rattle.modules_conf.specs.declared.fault.BindFault.{BindFault}
@@ -34,20 +34,20 @@ pub is_name_of-map : (done : List Binding) (name : List ℕ) → list_any (bytes
 is_name_of-map [] name = refl
 is_name_of-map (b ∷ bs) name = ap (λ t. bytes_eq name b.name || t) (is_name_of-map bs name)
 
-with_row-at : (done : List Binding) (line : ℕ) (ws : List (List ℕ)) (b : Binding) (twice : Bool) → length done < MOST_LINES → binding_of line ws ≡ Ok b
+with_row-at : (done : List Binding) (line : ℕ) (ws : List (List ℕ)) (b : Binding) (twice : Bool) → length done < most_lines → binding_of line ws ≡ Ok b
     → list_any (bytes_eq b.name) (map (λ (b : Binding). b.name) done) ≡ twice → with_row done (line, ws) ≡ unless_twice done line twice (Ok b)
 with_row-at done line ws b twice few is bound =
     let same : is_name_of done (bound_name (line, ws)) ≡ twice =
     ap (is_name_of done) (sym (name-binding_of line ws b is)) ∙ sym (is_name_of-map done b.name) ∙ bound in
-    rw (lt-leb MOST_LINES (length done) few, same, is) refl
+    rw (lt-leb most_lines (length done) few, same, is) refl
 
 -- A line that binds a bound name is refused.
-pub with_row-twice : (done : List Binding) (line : ℕ) (ws : List (List ℕ)) (b : Binding) → length done < MOST_LINES → binding_of line ws ≡ Ok b
+pub with_row-twice : (done : List Binding) (line : ℕ) (ws : List (List ℕ)) (b : Binding) → length done < most_lines → binding_of line ws ≡ Ok b
     → list_any (bytes_eq b.name) (map (λ (b : Binding). b.name) done) ≡ true → with_row done (line, ws) ≡ Err (Twice line)
 with_row-twice done line ws b few is bound = with_row-at done line ws b true few is bound
 
 -- A line that binds a new name adds its binding.
-pub with_row-next : (done new : List Binding) (line : ℕ) (ws : List (List ℕ)) (b : Binding) → length done < MOST_LINES → binding_of line ws ≡ Ok b
+pub with_row-next : (done new : List Binding) (line : ℕ) (ws : List (List ℕ)) (b : Binding) → length done < most_lines → binding_of line ws ≡ Ok b
     → list_any (bytes_eq b.name) (map (λ (b : Binding). b.name) done) ≡ false → new ≡ done ++ b ∷ [] → with_row done (line, ws) ≡ Ok new
 with_row-next done new line ws b few is bound pushed = with_row-at done line ws b false few is bound ∙ ap Ok (sym pushed)
 

@@ -12,7 +12,7 @@ use Rattle.modules_conf.specs.Charmaps.{names_charmaps}
 use Rattle.modules_conf.specs.Bindings.{Row, rows, bound_name, binding_of, binding_unless, kind_of, is_bound, fault_unless, fault_at, ok_of, bindings_unless, bindings_of}
 use Rattle.modules_conf.specs.BindingRows.{is_name_of, with_row, unless_twice, continued, with_rows}
 use Rattle.modules_conf.specs.Limits.{AreSound}
-use Rattle.modules_conf.specs.declared.limits.TheConstants.{MOST_LINES}
+use Rattle.modules_conf.specs.Numbers.{most_lines}
 use Rattle.modules_conf.specs.declared.kind.Kind.{Kind}
 use Rattle.modules_conf.specs.declared.bindings.Binding.{Binding}
 use Rattle.modules_conf.specs.declared.fault.BindFault.{BindFault}
@@ -41,12 +41,12 @@ SameNames-push read done row b same is = λ name.
     ∙ sym (list_any-append (λ (x : Binding). bytes_eq name x.name) done (b ∷ []))
 
 fault_here : (all read rest : List Row) (row : Row) (done : List Binding) (n : ℕ) → all ≡ read ++ row ∷ rest → n ≡ length read → n ≡ length done → SameNames read done
-    → fault_at all n row ≡ cond (nat_le MOST_LINES (length done)) (Some (TooMany row.0)) (fault_unless row.0 (is_name_of done (bound_name row)) (binding_of row.0 row.1))
+    → fault_at all n row ≡ cond (nat_le most_lines (length done)) (Some (TooMany row.0)) (fault_unless row.0 (is_name_of done (bound_name row)) (binding_of row.0 row.1))
 fault_here all read rest row done n is at count same =
     let front : take n all ≡ read = ap (λ k. take k all) at ∙ ap (take (length read)) is ∙ take-append_seam read (row ∷ rest) in
-    ap (λ before. cond (nat_le MOST_LINES n) (Some (TooMany row.0)) (fault_unless row.0 (is_bound before (bound_name row)) (binding_of row.0 row.1))) front
-    ∙ ap (λ t. cond (nat_le MOST_LINES n) (Some (TooMany row.0)) (fault_unless row.0 t (binding_of row.0 row.1))) (same (bound_name row))
-    ∙ ap (λ k. cond (nat_le MOST_LINES k) (Some (TooMany row.0)) (fault_unless row.0 (is_name_of done (bound_name row)) (binding_of row.0 row.1))) count
+    ap (λ before. cond (nat_le most_lines n) (Some (TooMany row.0)) (fault_unless row.0 (is_bound before (bound_name row)) (binding_of row.0 row.1))) front
+    ∙ ap (λ t. cond (nat_le most_lines n) (Some (TooMany row.0)) (fault_unless row.0 t (binding_of row.0 row.1))) (same (bound_name row))
+    ∙ ap (λ k. cond (nat_le most_lines k) (Some (TooMany row.0)) (fault_unless row.0 (is_name_of done (bound_name row)) (binding_of row.0 row.1))) count
 
 with_rows-left : (all read rest : List Row) (done : List Binding) (n : ℕ) → all ≡ read ++ rest → n ≡ length read → n ≡ length done → SameNames read done
     → bindings_unless (slice_get (filter_map (λ p. fault_at all p.0 p.1) (enumerate_from n rest)) 0) (done ++ filter_map (λ row. ok_of (binding_of row.0 row.1)) rest) ≡ with_rows rest done
@@ -56,7 +56,7 @@ with_rows-left all read (row ∷ rest) done n is at count same =
     let faults : List BindFault = filter_map (λ p. fault_at all p.0 p.1) (enumerate_from (n + 1) rest) in
     let oks : List Binding = filter_map (λ row. ok_of (binding_of row.0 row.1)) rest in
     ap (λ o. bindings_unless (slice_get (cons_option o faults) 0) (done ++ cons_option (ok_of (binding_of row.0 row.1)) oks)) (fault_here all read rest row done n is at count same)
-    ∙ one_row (nat_le MOST_LINES (length done)) (is_name_of done (bound_name row)) row.0 (binding_of row.0 row.1) done faults oks (with_rows rest)
+    ∙ one_row (nat_le most_lines (length done)) (is_name_of done (bound_name row)) row.0 (binding_of row.0 row.1) done faults oks (with_rows rest)
     (λ b read_as. with_rows-left all (read ++ row ∷ []) rest (done ++ b ∷ []) (n + 1) (is ∙ sym (append_assoc read (row ∷ []) rest))
     (omega (arith, length-append read (row ∷ []))) (omega (arith, length-append done (b ∷ [])))
     (SameNames-push read done row b same (name-binding_of row.0 row.1 b read_as)))
@@ -131,7 +131,7 @@ unfolding with_rows
 AreSound-with_rows [] done bs sound is = let same : done ≡ bs = cc in subst AreSound same sound
 AreSound-with_rows (row ∷ rest) done bs sound is =
     AreSound-rest (with_row done row) (with_rows rest) bs
-    (λ more taken left. AreSound-with_rows rest more bs (AreSound-row done more row (nat_le MOST_LINES (length done)) sound taken) left) is
+    (λ more taken left. AreSound-with_rows rest more bs (AreSound-row done more row (nat_le most_lines (length done)) sound taken) left) is
 
 -- The bindings that a text stands for are sound.
 pub AreSound-bindings_of : (text : List ℕ) (bs : List Binding) → bindings_of text ≡ Ok bs → AreSound bs

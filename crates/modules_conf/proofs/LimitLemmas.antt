@@ -12,7 +12,8 @@ use Rattle.names_alias.specs.NameForm.{normal_of}
 use Rattle.modules_conf.specs.Cost.{is_digit, decimal, cost_of}
 use Rattle.modules_conf.specs.Modules.{conf_words, both, edge_between, edge_line, edges_among, edge_lines, alias_lines, passed_lines, line_too_many, conf_unless, conf_of}
 use Rattle.modules_conf.specs.Limits.{IsWithinLimits}
-use Rattle.modules_conf.specs.declared.limits.TheConstants.{MOST_BYTES, MOST_COST, MOST_LINES}
+use Rattle.text_lines.specs.Limits.{longest_text}
+use Rattle.modules_conf.specs.Numbers.{most_cost, most_lines}
 use Rattle.modules_conf.specs.declared.lines.EdgeLine.{EdgeLine}
 use Rattle.modules_conf.specs.declared.conf.Conf.{Conf}
 use Rattle.modules_conf.proofs.LineLemmas.{line-edge_line}
@@ -53,17 +54,17 @@ numbers_rise m (l ∷ ls) =
     (numbers_rise (m + 1) ls)
 
 abbrev IsCost : ℕ → Type 0
-IsCost n = (1 ≤ n) × (n ≤ MOST_COST)
+IsCost n = (1 ≤ n) × (n ≤ most_cost)
 
-cost_in_range : (a b c : Bool) (n : ℕ) → nat_le 1 n ≡ b → nat_le n MOST_COST ≡ c → IsCost (unwrap_or (cond (a && b && c) (Some n) None) 1)
-cost_in_range true true true n low high = (leb-true 1 n low, leb-true n MOST_COST high)
+cost_in_range : (a b c : Bool) (n : ℕ) → nat_le 1 n ≡ b → nat_le n most_cost ≡ c → IsCost (unwrap_or (cond (a && b && c) (Some n) None) 1)
+cost_in_range true true true n low high = (leb-true 1 n low, leb-true n most_cost high)
 cost_in_range true true false n low high = (omega arith, omega arith)
 cost_in_range true false c n low high = (omega arith, omega arith)
 cost_in_range false b c n low high = (omega arith, omega arith)
 
 IsCost-of : (ws : List (List ℕ)) → IsCost (cost_of ws)
 IsCost-of [] = (omega arith, omega arith)
-IsCost-of (w ∷ ws) = cost_in_range (list_all is_digit w) (nat_le 1 (decimal w)) (nat_le (decimal w) MOST_COST) (decimal w) refl refl
+IsCost-of (w ∷ ws) = cost_in_range (list_all is_digit w) (nat_le 1 (decimal w)) (nat_le (decimal w) most_cost) (decimal w) refl refl
 
 IsCost-kept : (b : Bool) (x y : EdgeLine) → cond b (Some x) None ≡ Some y → IsCost x.cost → IsCost y.cost
 IsCost-kept true x y is cost = let same : x ≡ y = cc in subst (λ (e : EdgeLine). IsCost e.cost) same cost
@@ -85,24 +86,24 @@ IsCost-edge_line n (a ∷ b ∷ c ∷ []) e is = absurd (cc)
 IsCost-edge_line n (key ∷ b ∷ c ∷ d ∷ more) e is =
     IsCost-between n d more (both (normal_of b) (normal_of c)) e (cond_some (bytes_eq key (codes "module")) (edge_between n d more (both (normal_of b) (normal_of c))) e is)
 
-costs_from : (m : ℕ) (ls : List (List ℕ)) → All (λ (e : EdgeLine). (1 ≤ e.cost) × (e.cost ≤ MOST_COST)) (edges_among (enumerate_from m ls))
+costs_from : (m : ℕ) (ls : List (List ℕ)) → All (λ (e : EdgeLine). (1 ≤ e.cost) × (e.cost ≤ most_cost)) (edges_among (enumerate_from m ls))
 costs_from m [] = All-nil _
 costs_from m (l ∷ ls) =
-    All-cons_option (λ (e : EdgeLine). (1 ≤ e.cost) × (e.cost ≤ MOST_COST)) (edge_line m (conf_words l)) (edges_among (enumerate_from (m + 1) ls)) (IsCost-edge_line m (conf_words l)) (costs_from (m + 1) ls)
+    All-cons_option (λ (e : EdgeLine). (1 ≤ e.cost) × (e.cost ≤ most_cost)) (edge_line m (conf_words l)) (edges_among (enumerate_from (m + 1) ls)) (IsCost-edge_line m (conf_words l)) (costs_from (m + 1) ls)
 
 kept_conf : (o : Option ℕ) (a b : Conf) → conf_unless o a ≡ Ok b → a ≡ b
 kept_conf None a b is = cc
 kept_conf (Some n) a b is = absurd (cc)
 
 -- A text that stands for a configuration gives module lines within the limits.
-pub IsWithinLimits-conf_of : (text : List ℕ) (conf : Conf) → conf_of text ≡ Ok conf → length text ≤ MOST_BYTES → length conf.edges ≤ MOST_LINES → IsWithinLimits conf.edges
+pub IsWithinLimits-conf_of : (text : List ℕ) (conf : Conf) → conf_of text ≡ Ok conf → length text ≤ longest_text → length conf.edges ≤ most_lines → IsWithinLimits conf.edges
 IsWithinLimits-conf_of text conf is short few =
     let whole : Conf = record { edges = edge_lines text; aliases = alias_lines text; passed = passed_lines text } in
     let edges : edge_lines text ≡ conf.edges = ap (λ (c : Conf). c.edges) (kept_conf (line_too_many whole) whole conf is) in
     record {
       rising = subst (λ es. IsStrictlyIncreasing (map (λ (e : EdgeLine). e.line) es)) edges (numbers_rise 1 (lines text));
-      lines = subst (λ es. All (λ (e : EdgeLine). e.line ≤ MOST_BYTES) es) edges
-          (All-weaker (λ (e : EdgeLine). (1 ≤ e.line) × (e.line < 1 + length (lines text))) (λ (e : EdgeLine). e.line ≤ MOST_BYTES) (λ e h. omega (arith, h.1, length-lines text)) (edge_lines text) (numbers_from 1 (lines text)));
+      lines = subst (λ es. All (λ (e : EdgeLine). e.line ≤ longest_text) es) edges
+          (All-weaker (λ (e : EdgeLine). (1 ≤ e.line) × (e.line < 1 + length (lines text))) (λ (e : EdgeLine). e.line ≤ longest_text) (λ e h. omega (arith, h.1, length-lines text)) (edge_lines text) (numbers_from 1 (lines text)));
       count = few;
-      costs = subst (λ es. All (λ (e : EdgeLine). (1 ≤ e.cost) × (e.cost ≤ MOST_COST)) es) edges (costs_from 1 (lines text));
+      costs = subst (λ es. All (λ (e : EdgeLine). (1 ≤ e.cost) × (e.cost ≤ most_cost)) es) edges (costs_from 1 (lines text));
     }

@@ -9,7 +9,7 @@ use Rattle.std.proofs.lemmas.List.Sums.{sum_by-cons}
 use Rattle.text_lines.specs.Lines.{numbered_lines}
 use Rattle.modules_conf.specs.Modules.{conf_words, edge_line, alias_line, edges_among, aliases_among, passed_among, is_passed, least_of, line_too_many, checked_conf, conf_unless, conf_of}
 use Rattle.modules_conf.specs.Reading.{conf_with, IsFewEnough, Takes, Refuses}
-use Rattle.modules_conf.specs.declared.limits.TheConstants.{MOST_LINES}
+use Rattle.modules_conf.specs.Numbers.{most_lines}
 use Rattle.modules_conf.specs.declared.lines.EdgeLine.{EdgeLine}
 use Rattle.modules_conf.specs.declared.lines.AliasLine.{AliasLine}
 use Rattle.modules_conf.specs.declared.conf.Conf.{Conf}
@@ -36,7 +36,7 @@ pub conf_with-end : (conf : Conf) → IsFewEnough conf → conf_with conf [] ≡
 unfolding conf_with
 conf_with-end conf few =
     same_conf (conf.edges ++ []) conf.edges (conf.aliases ++ []) conf.aliases (conf.passed + 0) conf.passed (append-nil conf.edges) (append-nil conf.aliases) (omega arith)
-    ∙ rw (slice_get_past conf.edges MOST_LINES few.edges, slice_get_past conf.aliases MOST_LINES few.aliases) refl
+    ∙ rw (slice_get_past conf.edges most_lines few.edges, slice_get_past conf.aliases most_lines few.aliases) refl
 
 -- The configuration with what a line and those behind it add.
 conf_with-cons : (conf : Conf) (n : ℕ) (line : List ℕ) (ps : List (ℕ × List ℕ)) (e : Option EdgeLine) (a : Option AliasLine) (b : Bool)
@@ -145,24 +145,24 @@ least-second line n None later = refl
 least-second line n (Some x) later = least-after (line x) n (later x refl)
 
 -- A line of the other kind that is one too many comes later.
-later_than : {X : Type 0} (line : X → ℕ) (f : ℕ × List ℕ → Option X) → Numbers line f → (n : ℕ) (xs : List X) (ls : List (List ℕ)) → length xs ≤ MOST_LINES
-    → (x : X) → slice_get (xs ++ filter_map f (enumerate_from (n + 1) ls)) MOST_LINES ≡ Some x → n ≤ line x
+later_than : {X : Type 0} (line : X → ℕ) (f : ℕ × List ℕ → Option X) → Numbers line f → (n : ℕ) (xs : List X) (ls : List (List ℕ)) → length xs ≤ most_lines
+    → (x : X) → slice_get (xs ++ filter_map f (enumerate_from (n + 1) ls)) most_lines ≡ Some x → n ≤ line x
 later_than line f numbers n xs ls few x is =
-    later_get line f numbers n (n + 1) ls (MOST_LINES - length xs) x (omega arith) (sym (slice_get-behind xs (filter_map f (enumerate_from (n + 1) ls)) MOST_LINES few) ∙ is)
+    later_get line f numbers n (n + 1) ls (most_lines - length xs) x (omega arith) (sym (slice_get-behind xs (filter_map f (enumerate_from (n + 1) ls)) most_lines few) ∙ is)
 
 unless_least : (o : Option ℕ) (n : ℕ) (conf : Conf) → o ≡ Some n → conf_unless o conf ≡ Err (TooManyLines n)
 unless_least o n conf is = ap (λ l. conf_unless l conf) is
 
 -- A module line beyond the limit is refused, whatever lines follow.
-pub Refuses-edge : (conf : Conf) (n : ℕ) (line : List ℕ) (e : EdgeLine) → edge_line n (conf_words line) ≡ Some e → IsFewEnough conf → MOST_LINES ≤ length conf.edges
+pub Refuses-edge : (conf : Conf) (n : ℕ) (line : List ℕ) (e : EdgeLine) → edge_line n (conf_words line) ≡ Some e → IsFewEnough conf → most_lines ≤ length conf.edges
     → (fault : ConfFault) → fault ≡ TooManyLines e.line → Refuses conf n line fault
 unfolding conf_with
 Refuses-edge conf n line e is few full fault told = λ ls.
     let ps = enumerate_from (n + 1) ls in
     let number : e.line ≡ n = line-edge_line n (conf_words line) e is in
-    let seam : slice_get (conf.edges ++ e ∷ edges_among ps) MOST_LINES ≡ Some e = slice_get-seam conf.edges e (edges_among ps) MOST_LINES (omega (arith, full, few.edges)) in
-    let least : least_of (Some n) (option_map (λ (a : AliasLine). a.line) (slice_get (conf.aliases ++ aliases_among ps) MOST_LINES)) ≡ Some n =
-    least-first (λ (a : AliasLine). a.line) n (slice_get (conf.aliases ++ aliases_among ps) MOST_LINES)
+    let seam : slice_get (conf.edges ++ e ∷ edges_among ps) most_lines ≡ Some e = slice_get-seam conf.edges e (edges_among ps) most_lines (omega (arith, full, few.edges)) in
+    let least : least_of (Some n) (option_map (λ (a : AliasLine). a.line) (slice_get (conf.aliases ++ aliases_among ps) most_lines)) ≡ Some n =
+    least-first (λ (a : AliasLine). a.line) n (slice_get (conf.aliases ++ aliases_among ps) most_lines)
     (later_than (λ (a : AliasLine). a.line) (λ p. alias_line p.0 (conf_words p.1)) (λ p a. line-alias_line p.0 (conf_words p.1) a) n conf.aliases ls few.aliases) in
     conf_with-cons conf n line ps (Some e) None false is (alias_line-edge n (conf_words line) e is) (passed-edge n (conf_words line) e is)
     ∙ unless_least (line_too_many (record { edges = conf.edges ++ e ∷ edges_among ps; aliases = conf.aliases ++ aliases_among ps; passed = conf.passed + (0 + passed_among ps) })) n
@@ -172,14 +172,14 @@ Refuses-edge conf n line e is few full fault told = λ ls.
 
 -- An alias line beyond the limit is refused, whatever lines follow.
 pub Refuses-alias : (conf : Conf) (n : ℕ) (line : List ℕ) (a : AliasLine) → edge_line n (conf_words line) ≡ None → alias_line n (conf_words line) ≡ Some a → IsFewEnough conf
-    → MOST_LINES ≤ length conf.aliases → (fault : ConfFault) → fault ≡ TooManyLines a.line → Refuses conf n line fault
+    → most_lines ≤ length conf.aliases → (fault : ConfFault) → fault ≡ TooManyLines a.line → Refuses conf n line fault
 unfolding conf_with
 Refuses-alias conf n line a no_edge is few full fault told = λ ls.
     let ps = enumerate_from (n + 1) ls in
     let number : a.line ≡ n = line-alias_line n (conf_words line) a is in
-    let seam : slice_get (conf.aliases ++ a ∷ aliases_among ps) MOST_LINES ≡ Some a = slice_get-seam conf.aliases a (aliases_among ps) MOST_LINES (omega (arith, full, few.aliases)) in
-    let least : least_of (option_map (λ (e : EdgeLine). e.line) (slice_get (conf.edges ++ edges_among ps) MOST_LINES)) (Some n) ≡ Some n =
-    least-second (λ (e : EdgeLine). e.line) n (slice_get (conf.edges ++ edges_among ps) MOST_LINES)
+    let seam : slice_get (conf.aliases ++ a ∷ aliases_among ps) most_lines ≡ Some a = slice_get-seam conf.aliases a (aliases_among ps) most_lines (omega (arith, full, few.aliases)) in
+    let least : least_of (option_map (λ (e : EdgeLine). e.line) (slice_get (conf.edges ++ edges_among ps) most_lines)) (Some n) ≡ Some n =
+    least-second (λ (e : EdgeLine). e.line) n (slice_get (conf.edges ++ edges_among ps) most_lines)
     (later_than (λ (e : EdgeLine). e.line) (λ p. edge_line p.0 (conf_words p.1)) (λ p e. line-edge_line p.0 (conf_words p.1) e) n conf.edges ls few.edges) in
     conf_with-cons conf n line ps None (Some a) false no_edge is (passed-alias n (conf_words line) a is)
     ∙ unless_least (line_too_many (record { edges = conf.edges ++ edges_among ps; aliases = conf.aliases ++ a ∷ aliases_among ps; passed = conf.passed + (0 + passed_among ps) })) n

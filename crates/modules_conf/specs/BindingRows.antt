@@ -5,7 +5,7 @@ use Rattle.std.specs.Str.{bytes_eq}
 use Rattle.modules_conf.specs.Bindings.{Row, bound_name, binding_of, rows_among}
 use Rattle.modules_conf.specs.Charmaps.{names_charmaps}
 use Rattle.modules_conf.specs.declared.kind.Kind.{Kind}
-use Rattle.modules_conf.specs.declared.limits.TheConstants.{MOST_LINES}
+use Rattle.modules_conf.specs.Numbers.{most_lines}
 use Rattle.modules_conf.specs.declared.bindings.Binding.{Binding}
 use Rattle.modules_conf.specs.declared.fault.BindFault.{BindFault}
 use Rattle.modules_conf.specs.declared.fault.BindFault.TheVariants.{Twice, TooMany}
@@ -22,7 +22,7 @@ unless_twice done line twice (Err fault) = Err fault
 -- The bindings behind one more line that counts.
 abbrev pub with_row : List Binding → Row → Result (List Binding) BindFault
 with_row done row =
-    if nat_le MOST_LINES (length done) then Err (TooMany row.0)
+    if nat_le most_lines (length done) then Err (TooMany row.0)
     else unless_twice done row.0 (is_name_of done (bound_name row)) (binding_of row.0 row.1)
 
 -- What follows bindings, unless there is a fault.

@@ -5,7 +5,7 @@ use Rattle.std.specs.Str.{bytes_eq}
 use Rattle.text_lines.specs.Lines.{numbered_lines}
 use Rattle.text_lines.specs.Words.{words}
 use Rattle.modules_conf.specs.Charmaps.{names_charmaps}
-use Rattle.modules_conf.specs.declared.limits.TheConstants.{MOST_LINES}
+use Rattle.modules_conf.specs.Numbers.{most_lines}
 use Rattle.modules_conf.specs.declared.kind.Kind.{Kind}
 use Rattle.modules_conf.specs.declared.kind.Kind.TheVariants.{Table, Iso2022Jp, Recode}
 use Rattle.modules_conf.specs.declared.bindings.Binding.{Binding}
@@ -83,7 +83,7 @@ fault_unless line twice (Err fault) = Some fault
 -- else that an earlier line binds its name.
 abbrev pub fault_at : List Row → ℕ → Row → Option BindFault
 fault_at all place row =
-    if nat_le MOST_LINES place then Some (TooMany row.0)
+    if nat_le most_lines place then Some (TooMany row.0)
     else fault_unless row.0 (is_bound (take place all) (bound_name row)) (binding_of row.0 row.1)
 
 -- The fault of the first faulty line of a text.

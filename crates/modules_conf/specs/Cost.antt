@@ -1,7 +1,7 @@
 -- The cost of a module line.
 use Rattle.std.specs.Prelude.{ℕ, ◌+◌, ◌*◌, ◌-◌, Bool, ◌&&◌, if◌then◌else◌, nat_le, List, [], ◌∷◌, fold, Option, Some, None, unwrap_or}
 use Rattle.std.specs.List.{list_all}
-use Rattle.modules_conf.specs.declared.limits.TheConstants.{MOST_COST}
+use Rattle.modules_conf.specs.Numbers.{most_cost}
 
 -- The bytes 0 to 9.
 abbrev pub is_digit : ℕ → Bool
@@ -14,7 +14,7 @@ decimal digits = fold (λ n d. 10 * n + (d - 48)) 0 digits
 -- A word is a cost where it has digits alone and its number is in range.
 abbrev pub cost_number : List ℕ → Option ℕ
 cost_number w =
-    if list_all is_digit w && nat_le 1 (decimal w) && nat_le (decimal w) MOST_COST
+    if list_all is_digit w && nat_le 1 (decimal w) && nat_le (decimal w) most_cost
     then Some (decimal w) else None
 
 -- The cost of a line is the first word behind the module's, where that is a cost, and else 1.

@@ -1,3 +1,4 @@
+pub mod Numbers
 pub mod Cost
 pub mod Modules
 pub mod Charmaps

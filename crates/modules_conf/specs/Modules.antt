@@ -7,7 +7,7 @@ use Rattle.text_lines.specs.Lines.{numbered_lines}
 use Rattle.text_lines.specs.Words.{words}
 use Rattle.names_alias.specs.NameForm.{normal_of}
 use Rattle.modules_conf.specs.Cost.{cost_of}
-use Rattle.modules_conf.specs.declared.limits.TheConstants.{MOST_LINES}
+use Rattle.modules_conf.specs.Numbers.{most_lines}
 use Rattle.modules_conf.specs.declared.lines.EdgeLine.{EdgeLine}
 use Rattle.modules_conf.specs.declared.lines.AliasLine.{AliasLine}
 use Rattle.modules_conf.specs.declared.conf.Conf.{Conf}
@@ -90,8 +90,8 @@ least_of (Some a) (Some b) = Some (min a b)
 -- The line of the first module line or alias line that is one more than the limit.
 abbrev pub line_too_many : Conf → Option ℕ
 line_too_many conf =
-    least_of (option_map (λ e. e.line) (slice_get conf.edges MOST_LINES))
-    (option_map (λ a. a.line) (slice_get conf.aliases MOST_LINES))
+    least_of (option_map (λ e. e.line) (slice_get conf.edges most_lines))
+    (option_map (λ a. a.line) (slice_get conf.aliases most_lines))
 
 -- A configuration, or the refusal of a line.
 abbrev pub conf_unless : Option ℕ → Conf → Result Conf ConfFault

@@ -2,7 +2,7 @@
 use Rattle.std.specs.Prelude.{◌≡◌, ℕ, ◌+◌, ◌≤◌, List, ◌∷◌, ◌++◌, length, Result, Err}
 use Rattle.std.specs.List.{enumerate_from}
 use Rattle.modules_conf.specs.Modules.{edges_among, aliases_among, passed_among, checked_conf}
-use Rattle.modules_conf.specs.declared.limits.TheConstants.{MOST_LINES}
+use Rattle.modules_conf.specs.Numbers.{most_lines}
 use Rattle.modules_conf.specs.declared.conf.Conf.{Conf}
 use Rattle.modules_conf.specs.declared.fault.ConfFault.{ConfFault}
 
@@ -17,8 +17,8 @@ conf_with conf ps =
 
 -- No kind of line is beyond its limit.
 pub record IsFewEnough (conf : Conf) : Type 0 where
-  pub edges : length conf.edges ≤ MOST_LINES
-  pub aliases : length conf.aliases ≤ MOST_LINES
+  pub edges : length conf.edges ≤ most_lines
+  pub aliases : length conf.aliases ≤ most_lines
 
 -- The new configuration has one line more, whatever lines follow.
 abbrev pub Takes : Conf → ℕ → List ℕ → Conf → Type 0

@@ -1,6 +1,7 @@
 //! The reader of a bindings text.
 
 ghost use Rattle.std.specs.Prelude.{◌≡◌, ◌≢◌, ◌<◌, ◌≤◌, length, map, All, OnOk, IfOk, IfErr, MatchResult};
+ghost use Rattle.text_lines.specs.Limits.{longest_text};
 ghost use Rattle.modules_conf.specs.Bindings.{bindings_of};
 ghost use Rattle.modules_conf.specs.BindingRows.{with_row, Binds, RefusesRow};
 ghost use Rattle.modules_conf.specs.Limits.{AreSound};
@@ -8,7 +9,7 @@ ghost use Rattle.modules_conf.specs.Limits.{AreSound};
 use crate::binding_words::{counts, read_binding};
 use crate::bindings::Bindings;
 use crate::fault::BindFault;
-use crate::limits::{MOST_BYTES, MOST_LINES};
+use crate::limits::MOST_LINES;
 use indexmap::IndexSet;
 use names_alias::Word;
 use std::alloc::Global;
@@ -77,7 +78,7 @@ fn take_line(
 /// with words is `NAME table MAP`, `NAME iso2022jp ROMAN KANJI` or `NAME recode FIRST SECOND`, and
 /// no name is bound twice. The first faulty line is refused; the first line beyond 16,384 is one.
 pub fn read_bindings(alloc: Global, text: &[u8]) -> Result<Bindings, BindFault>
-    requires { length text.now ≤ MOST_BYTES }
+    requires { length text.now ≤ longest_text }
     ensures value { MatchResult result
         (λ bindings. bindings_of text.now ≡ Ok bindings)
         (λ fault. fault ≢ BindFault.Memory → bindings_of text.now ≡ Err fault) }

@@ -14,8 +14,6 @@ mod limits;
 mod lines;
 mod modules;
 mod resolution;
-#[cfg(test)]
-mod tests;
 mod words;
 
 pub use binding_reader::read_bindings;
@@ -23,7 +21,7 @@ pub use bindings::{Binding, Bindings};
 pub use conf::Conf;
 pub use fault::{BindFault, ConfFault};
 pub use kind::Kind;
-pub use limits::{MOST_BYTES, MOST_COST, MOST_LINES};
+pub use limits::{MOST_COST, MOST_LINES};
 pub use lines::{AliasLine, AliasLines, EdgeLine, EdgeLines};
 pub use modules::read_modules;
 pub use resolution::aliases_of;

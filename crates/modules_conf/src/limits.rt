@@ -1,8 +1,5 @@
 //! The limits of a configuration.
 
-/// The most bytes of a gconv-modules or a bindings text.
-pub const MOST_BYTES: usize = 16_777_216;
-
 /// The most module lines, alias lines or bindings lines.
 pub const MOST_LINES: usize = 16_384;
 

@@ -1,13 +1,15 @@
 //! The reader of a gconv-modules text.
 
 ghost use Rattle.std.specs.Prelude.{◌≡◌, ◌≢◌, ◌<◌, ◌≤◌, [], ◌∷◌, ◌++◌, length, OnOk, IfOk, IfErr, MatchResult};
+ghost use Rattle.text_lines.specs.Limits.{longest_text};
+ghost use Rattle.modules_conf.specs.Numbers.{most_lines};
 ghost use Rattle.modules_conf.specs.Modules.{conf_of};
 ghost use Rattle.modules_conf.specs.Reading.{Takes, Refuses, IsFewEnough};
 ghost use Rattle.modules_conf.specs.Limits.{IsWithinLimits};
 
 use crate::conf::Conf;
 use crate::fault::ConfFault;
-use crate::limits::{MOST_BYTES, MOST_LINES};
+use crate::limits::MOST_LINES;
 use crate::lines::{AliasLine, AliasLines, EdgeLine, EdgeLines};
 use crate::words::{front_words, read_alias, read_edge};
 use std::alloc::Global;
@@ -15,9 +17,9 @@ use text_lines::next_line;
 
 /// Appends a module line, unless it is one too many.
 fn push_edge(edges: &mut EdgeLines, edge: EdgeLine) -> Result<(), ConfFault>
-    ensures ok { OnOk result ((length edges.old < MOST_LINES) × (edges.new ≡ edges.old ++ edge ∷ [])) }
+    ensures ok { OnOk result ((length edges.old < most_lines) × (edges.new ≡ edges.old ++ edge ∷ [])) }
     ensures err { IfErr result (λ fault. fault ≢ ConfFault.Memory
-        → (MOST_LINES ≤ length edges.old) × (fault ≡ ConfFault.TooManyLines edge.line)) }
+        → (most_lines ≤ length edges.old) × (fault ≡ ConfFault.TooManyLines edge.line)) }
 {
     if edges.as_slice().len() >= MOST_LINES {
         return Err(ConfFault::TooManyLines { line: edge.line });
@@ -30,9 +32,9 @@ fn push_edge(edges: &mut EdgeLines, edge: EdgeLine) -> Result<(), ConfFault>
 
 /// Appends an alias line, unless it is one too many.
 fn push_alias(aliases: &mut AliasLines, alias: AliasLine) -> Result<(), ConfFault>
-    ensures ok { OnOk result ((length aliases.old < MOST_LINES) × (aliases.new ≡ aliases.old ++ alias ∷ [])) }
+    ensures ok { OnOk result ((length aliases.old < most_lines) × (aliases.new ≡ aliases.old ++ alias ∷ [])) }
     ensures err { IfErr result (λ fault. fault ≢ ConfFault.Memory
-        → (MOST_LINES ≤ length aliases.old) × (fault ≡ ConfFault.TooManyLines alias.line)) }
+        → (most_lines ≤ length aliases.old) × (fault ≡ ConfFault.TooManyLines alias.line)) }
 {
     if aliases.as_slice().len() >= MOST_LINES {
         return Err(ConfFault::TooManyLines { line: alias.line });
@@ -45,7 +47,7 @@ fn push_alias(aliases: &mut AliasLines, alias: AliasLine) -> Result<(), ConfFaul
 
 /// Takes one line more into a configuration.
 fn take_line(conf: &mut Conf, number: u32, line: &[u8]) -> Result<(), ConfFault>
-    requires long { length line.now ≤ MOST_BYTES }
+    requires long { length line.now ≤ longest_text }
     requires few { IsFewEnough conf.old }
     requires passed { conf.old.passed < number }
     ensures ok { OnOk result (Takes conf.old number line.now conf.new) }
@@ -79,7 +81,7 @@ fn take_line(conf: &mut Conf, number: u32, line: &[u8]) -> Result<(), ConfFault>
 /// that is no number from 1 to 2,147,483,647, is 1. The first module line or alias line beyond
 /// 16,384 of its kind is refused.
 pub fn read_modules(alloc: Global, text: &[u8]) -> Result<Conf, ConfFault>
-    requires { length text.now ≤ MOST_BYTES }
+    requires { length text.now ≤ longest_text }
     ensures value { MatchResult result
         (λ conf. conf_of text.now ≡ Ok conf)
         (λ fault. fault ≢ ConfFault.Memory → conf_of text.now ≡ Err fault) }

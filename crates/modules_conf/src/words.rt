@@ -2,10 +2,10 @@
 
 ghost use Rattle.std.specs.Prelude.{◌≡◌, ◌==◌, ◌<◌, ◌≤◌, length, map, take, All};
 ghost use Rattle.std.specs.List.{before_first, position};
+ghost use Rattle.text_lines.specs.Limits.{longest_text};
 ghost use Rattle.modules_conf.specs.Modules.{conf_words, edge_line, alias_line};
 
 use crate::cost::cost;
-use crate::limits::MOST_BYTES;
 use crate::lines::{AliasLine, EdgeLine};
 use arrayvec::ArrayVec;
 use names_alias::{Word, normal};
@@ -31,16 +31,16 @@ fn before_comment(line: &[u8]) -> &[u8]
 
 /// The first five words of a line, on which its meaning hangs.
 pub(crate) fn front_words(line: &[u8]) -> ArrayVec<&[u8], 5>
-    requires { length line.now ≤ MOST_BYTES }
+    requires { length line.now ≤ longest_text }
     ensures value { map (λ word. word.now) result.items ≡ take 5 (conf_words line.now) }
-    ensures sized { All (λ word. (0 < length word.now) × (length word.now ≤ MOST_BYTES)) result.items }
+    ensures sized { All (λ word. (0 < length word.now) × (length word.now ≤ longest_text)) result.items }
 {
     first_words::<5>(before_comment(line))
 }
 
 /// The module line that words are, if they are one.
 pub(crate) fn read_edge(line: u32, words: &[&[u8]]) -> Option<EdgeLine>
-    requires { All (λ word. (0 < length word.now) × (length word.now ≤ MOST_BYTES)) words.now }
+    requires { All (λ word. (0 < length word.now) × (length word.now ≤ longest_text)) words.now }
     ensures { result ≡ edge_line line (map (λ word. word.now) words.now) }
 {
     let [key, source, target, bound, more @ ..] = words else {
@@ -67,7 +67,7 @@ pub(crate) fn read_edge(line: u32, words: &[&[u8]]) -> Option<EdgeLine>
 
 /// The alias line that words are, if they are one.
 pub(crate) fn read_alias(line: u32, words: &[&[u8]]) -> Option<AliasLine>
-    requires { All (λ word. (0 < length word.now) × (length word.now ≤ MOST_BYTES)) words.now }
+    requires { All (λ word. (0 < length word.now) × (length word.now ≤ longest_text)) words.now }
     ensures { result ≡ alias_line line (map (λ word. word.now) words.now) }
 {
     let [key, alias, original, ..] = words else {

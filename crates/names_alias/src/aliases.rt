@@ -1,6 +1,7 @@
 //! Aliases of names.
 
 ghost use Rattle.std.specs.Prelude.{◌≡◌, unwrap_or};
+ghost use Rattle.text_lines.specs.Limits.{longest_text};
 ghost use Rattle.names_alias.specs.Builtin.{builtin_aliases};
 ghost use Rattle.names_alias.specs.Aliases.{original_of};
 
@@ -79,7 +80,7 @@ impl Aliases {
     /// What the normal form of a text stands for. It refuses as `normal` does, and then the name of
     /// the set between all others.
     pub fn caller_name(&self, text: &[u8]) -> Result<Name, NameFault>
-        requires { length text.now ≤ 16777216 }
+        requires { length text.now ≤ longest_text }
         ensures { result ≡ caller_name_of self.now text.now }
     {
         let name = self.resolve(&normal(text)?);

@@ -1,6 +1,7 @@
 //! The normal form of a text, by one scan from left to right.
 
 ghost use Rattle.std.specs.Prelude.{◌≡◌, ◌≤◌, ◌<◌, ◌+◌, ℕ, List, [], ◌∷◌, ◌++◌, length};
+ghost use Rattle.text_lines.specs.Limits.{longest_text};
 ghost use Rattle.names_alias.specs.NameForm.{to_upper, is_kept, normal_of, checked_name};
 ghost use Rattle.names_alias.specs.Scan.{so_far, tail_at};
 ghost use Rattle.names_alias.specs.Front.{IsFrontOf};
@@ -37,7 +38,7 @@ fn upper(byte: u8) -> u8
 /// The list with the slashes that it lacks.
 fn padded(mut front: Front, slashes: u32) -> Front
     requires few { slashes ≤ 2 }
-    requires room { front.len ≤ 16777216 }
+    requires room { front.len ≤ longest_text }
     ensures { (head tail : List ℕ) → IsFrontOf front (so_far slashes head tail)
         → IsFrontOf result (so_far 2 head (tail_at slashes tail)) }
 {
@@ -74,7 +75,7 @@ fn finish(front: Front, first: u32) -> Result<Name, NameFault>
 /// slashes that it lacks of two. A suffix is told before a missing first part, and that before a
 /// name that is too long.
 pub fn normal(text: &[u8]) -> Result<Name, NameFault>
-    requires { length text.now ≤ 16777216 }
+    requires { length text.now ≤ longest_text }
     ensures { result ≡ normal_of text.now }
 {
     let mut front = Front::new();

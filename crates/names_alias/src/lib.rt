@@ -10,8 +10,6 @@ mod form;
 mod front;
 mod laws;
 mod name;
-#[cfg(test)]
-mod tests;
 mod word;
 
 pub use aliases::Aliases;

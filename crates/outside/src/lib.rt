@@ -19,8 +19,6 @@ mod standard_output;
 mod sure_files;
 mod sure_library;
 mod sure_sink;
-#[cfg(test)]
-mod tests;
 
 pub use dir_library::DirLibrary;
 pub use disk::DiskFiles;

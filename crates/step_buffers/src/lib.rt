@@ -11,8 +11,6 @@ mod laws;
 mod limits;
 mod parts;
 mod session;
-#[cfg(test)]
-mod tests;
 mod through;
 
 pub use answers::{Fed, Finish, Whole};

@@ -6,8 +6,6 @@ pub mod ascii;
 mod laws;
 mod set;
 mod small;
-#[cfg(test)]
-mod tests;
 pub mod ucs4;
 mod units;
 pub mod utf16;

@@ -7,8 +7,6 @@
 
 mod limits;
 mod line;
-#[cfg(test)]
-mod tests;
 mod word;
 
 pub use limits::LONGEST_TEXT;

@@ -13,8 +13,6 @@ mod levels;
 mod marks;
 mod overlap;
 mod run;
-#[cfg(test)]
-mod tests;
 mod trie;
 mod walk;
 mod words;

@@ -12,20 +12,20 @@ read_mapping-requires-clause-count c =
 
 pub returns-in-Err-clause-err : goal.returns-in-Err-clause-err
 returns-in-Err-clause-err c =
-    charmap_read c.args.text.now c.if-text-gt16777216.false
+    charmap_read c.args.text.now c.if-text.false
     (sym c.starts_with.ensures.value ∙ c.if-starts_with.false)
     ∙ c.in-Err.ensures.err
 
 pub returns-in-Err-read_mapping-clause-err : goal.returns-in-Err-read_mapping-clause-err
 returns-in-Err-read_mapping-clause-err c =
     let read =
-    charmap_read c.args.text.now c.if-text-gt16777216.false
+    charmap_read c.args.text.now c.if-text.false
     (sym c.starts_with.ensures.value ∙ c.if-starts_with.false)
     ∙ c.in-Ok.ensures.ok in
     subst (λ r. Fails c.in-Err-read_mapping.fault r) (sym read) c.in-Err-read_mapping.ensures.err
 
 pub returns-in-Ok-read_mapping-clause-ok : goal.returns-in-Ok-read_mapping-clause-ok
 returns-in-Ok-read_mapping-clause-ok c =
-    charmap_read c.args.text.now c.if-text-gt16777216.false
+    charmap_read c.args.text.now c.if-text.false
     (sym c.starts_with.ensures.value ∙ c.if-starts_with.false)
     ∙ c.in-Ok.ensures.ok ∙ c.in-Ok-read_mapping.ensures.ok
