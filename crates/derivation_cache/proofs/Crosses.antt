@@ -1,8 +1,6 @@
 -- What of a cache may cross threads. Rattle's own rule stops at the `Snapshot` of a list's graph.
 use denote.Param.Send.{IsSend, IsSync, sendable}
 use Rattle.std.proofs.Crossing.{crosses}
-use Rattle.left_right.proofs.part.Part.TheSendSync as part
-use Rattle.left_right.proofs.part.Deed.TheSendSync as deed
 use Rattle.left_right.proofs.reader.Reader.TheSendSync as reader
 use Rattle.left_right.proofs.writer.Writer.TheSendSync as writer
 use Rattle.derivation_cache.specs.contracts.told.List as list

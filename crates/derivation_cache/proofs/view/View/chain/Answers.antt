@@ -1,5 +1,4 @@
-use Rattle.std.proofs.Common.{rules, ◌≡◌, sym, subst, Some, IfSome, MatchOption}
-use Rattle.left_right.specs.Sides.{view as seat_view}
+use Rattle.std.proofs.Common.{rules}
 use Rattle.derivation_cache.proofs.Finding.{then_told}
 use Rattle.derivation_cache.proofs.view.View.chain.Goals.{in-Some, in-None}
 use Rattle.derivation_cache.proofs.view.View.chain.Goals as goal

@@ -1,0 +1,4 @@
+pub mod Totals
+pub mod Tickets
+pub mod Fairs
+pub mod Settling

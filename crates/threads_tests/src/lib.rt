@@ -1,0 +1,7 @@
+//! Tests of the floor threads: each with two threads, bounded in what they do.
+#![tactic(auto)]
+
+#[cfg(test)]
+mod boards;
+#[cfg(test)]
+mod caches;
