@@ -1,0 +1,3 @@
+pub mod Keeps
+pub mod Finding
+pub mod Crosses
