@@ -4,7 +4,7 @@
 #
 #   bench/chains.sh [PROGRAM]
 #
-# PROGRAM is crates/chain_bench/out/chain_bench where none is given. RUNS=N measures each row N times
+# bench/draw.py draws what it prints. PROGRAM is crates/chain_bench/out/chain_bench where none is given. RUNS=N measures each row N times
 # (5 where it isn't set); a figure is the best of them. A row is skipped where a peer is missing.
 . "$(dirname "$0")/setup.sh"
 need python3 iconv
@@ -26,6 +26,7 @@ words = {
     "latin": "déjà élève être naïf garçon où façon über Straße schön größer früh Mädchen niño mañana the",
     "cyrillic": "и в не на я быть он с что а по это она этот к но они мы весь который мочь",
     "japanese": "日本語 文字 コード 変換 と は を に が で ひらがな カタカナ 漢字 東京 大阪 今日 明日 世界",
+    "chinese": "中文 字符 编码 转换 的 是 在 了 和 有 我们 世界 北京 上海 今天 明天 汉字 语言 ， 。",
     "emoji": "😀 😁 😂 🤣 😃 🎉 🚀 🌍 🍣 🐈 🦊 🧪 🔧 📁 💾 🕰 🎼 🀄 🂡 𝄞",
 }
 rows = [("UTF-8", "UTF-16LE", k) for k in words] + [("UTF-16LE", "UTF-8", k) for k in words]

@@ -1,5 +1,5 @@
 -- A mask without a bit tells of every lane.
-use Rattle.std.proofs.Common.{◌≡◌, ℕ, ◌+◌, ◌*◌, ◌%◌, ◌^◌, Bool, true, false, not, cond, eqb, leb, List, [], ◌∷◌, map, length, replicate, refl, sym, ap, ◌∙◌, arith, w8, eqb-true}
+use Rattle.std.proofs.Common.{◌≡◌, ℕ, ◌+◌, ◌*◌, ◌%◌, ◌^◌, ◌≤◌, Bool, true, false, not, cond, eqb, leb, List, [], ◌∷◌, map, length, replicate, refl, sym, ap, ◌∙◌, arith, w8, eqb-true}
 use Rattle.std.proofs.lemmas.List.{length-map}
 use Rattle.std.proofs.lemmas.Bool.{leb-false}
 use Rattle.std.proofs.lemmas.Simd.{tops_compared, zip2_splat_left, mask_l-mod, length-zip2}
@@ -46,10 +46,10 @@ same_lanes (x ∷ a) (y ∷ b) long none = go (same_lanes a b) (eqb x y) refl
     go rest false e = absurd (let h : 1 + 2 * mask_l (zip2 differ a b) ≡ 0 = rw e at none in omega arith)
 
 -- `simd_ne` sets no bit
-pub none_differ : (a b : List ℕ) → length a ≡ 32 → length b ≡ 32 →
+pub none_differ : (n : ℕ) → n ≤ 64 → (a b : List ℕ) → length a ≡ n → length b ≡ n →
     mask_l (map (top 7) (zip2 (λ x y. cond (differ x y) 255 0) a b)) % 2 ^ 64 ≡ 0 → a ≡ b
-none_differ a b long other none =
+none_differ n few a b long other none =
     let same : mask_l (map (top 7) (zip2 (λ x y. cond (differ x y) 255 0) a b)) % 2 ^ 64 ≡ mask_l (zip2 differ a b) =
     ap (λ ms. mask_l ms % 2 ^ 64) (tops_compared w8 differ a b)
-    ∙ mask_l-mod (zip2 differ a b) 64 (omega (arith, length-zip2 differ a b (long ∙ sym other))) in
+    ∙ mask_l-mod (zip2 differ a b) 64 (omega (arith, few, long, length-zip2 differ a b (long ∙ sym other))) in
     same_lanes a b (long ∙ sym other) (sym same ∙ none)

@@ -1,9 +1,12 @@
-//! Sixteen points below 80 hex at once, in one vector of bytes.
+//! Sixteen points below 80 hex at once, in one vector of bytes, and how far a text is plain.
 #![tactic(auto)]
 
 ghost use Rattle.std.specs.Prelude.{◌≡◌, ◌+◌, ◌≤◌, ◌++◌, length, take, drop, IsTrue, IfSome};
-ghost use Rattle.ascii_lanes.specs.Plain.{ArePlain, low_first, high_first};
+ghost use Rattle.ascii_lanes.specs.Plain.{ArePlain, low_first, high_first, last_of_four};
 
+mod runs;
+
+pub use runs::{ascii_run, plain_units};
 use std::simd::prelude::*;
 
 /// Sixteen points, one a byte.
@@ -62,6 +65,25 @@ pub fn load_high_first(bytes: &[u8]) -> Option<Lanes>
     }
 }
 
+/// Sixteen points below 80 hex, where the first 64 bytes are these as numbers of four bytes, highest
+/// bytes first.
+#[inline(always)]
+pub fn load_last_of_four(bytes: &[u8]) -> Option<Lanes>
+    requires { 64 ≤ length bytes.now }
+    ensures { IfSome result (λ l. ArePlain l.points × (take 64 bytes.now ≡ last_of_four l.points)) }
+{
+    let fours = u8x64::from_slice(bytes);
+    let points = fours.shuffle(
+        fours,
+        [3, 7, 11, 15, 19, 23, 27, 31, 35, 39, 43, 47, 51, 55, 59, 63],
+    );
+    if is_plain(points) && are_same_fours(fours, last_of_four(points)) {
+        Some(Lanes { points })
+    } else {
+        None
+    }
+}
+
 /// Whether each of 16 bytes is below 80 hex.
 #[inline(always)]
 fn is_plain(lanes: u8x16) -> bool
@@ -73,6 +95,14 @@ fn is_plain(lanes: u8x16) -> bool
 /// Whether two vectors are the same.
 #[inline(always)]
 fn are_same(a: u8x32, b: u8x32) -> bool
+    ensures { IsTrue result → a ≡ b }
+{
+    a.simd_ne(b).to_bitmask() == 0
+}
+
+/// Whether two vectors of 64 bytes are the same.
+#[inline(always)]
+fn are_same_fours(a: u8x64, b: u8x64) -> bool
     ensures { IsTrue result → a ≡ b }
 {
     a.simd_ne(b).to_bitmask() == 0
@@ -108,6 +138,22 @@ fn high_first(points: u8x16) -> u8x32
     )
 }
 
+/// Three 0 before each byte.
+#[inline(always)]
+fn last_of_four(points: u8x16) -> u8x64
+    ensures value { result ≡ last_of_four points }
+    ensures long { length result ≡ 64 }
+{
+    points.shuffle(
+        u8x16::splat(0),
+        [
+            16, 16, 16, 0, 16, 16, 16, 1, 16, 16, 16, 2, 16, 16, 16, 3, 16, 16, 16, 4, 16, 16, 16,
+            5, 16, 16, 16, 6, 16, 16, 16, 7, 16, 16, 16, 8, 16, 16, 16, 9, 16, 16, 16, 10, 16, 16,
+            16, 11, 16, 16, 16, 12, 16, 16, 16, 13, 16, 16, 16, 14, 16, 16, 16, 15,
+        ],
+    )
+}
+
 #[inline(always)]
 #[tactic(auto, using(std::proofs::lemmas::Simd::put_chunk_whole))]
 fn store(points: u8x16, part: &mut [u8])
@@ -126,6 +172,16 @@ fn store_wide(pairs: u8x32, part: &mut [u8])
     ensures { part.new ≡ pairs }
 {
     pairs.copy_to_slice(part);
+}
+
+#[inline(always)]
+#[tactic(auto, using(std::proofs::lemmas::Simd::put_chunk_whole))]
+fn store_fours(fours: u8x64, part: &mut [u8])
+    requires part { length part.old ≡ 64 }
+    requires fours { length fours ≡ 64 }
+    ensures { part.new ≡ fours }
+{
+    fours.copy_to_slice(part);
 }
 
 /// Writes 16 points behind the first `at` bytes, a byte each.
@@ -159,4 +215,15 @@ pub fn put_high_first(lanes: Lanes, output: &mut [u8], at: usize)
     ensures rest { drop (at + 32) output.new ≡ drop (at + 32) output.old }
 {
     store_wide(high_first(lanes.points), &mut output[at..at + 32]);
+}
+
+/// Writes 16 points behind the first `at` bytes, four bytes each, highest ones first.
+#[inline(always)]
+#[tactic(auto, using(std::proofs::lemmas::Slice::overwrites))]
+pub fn put_last_of_four(lanes: Lanes, output: &mut [u8], at: usize)
+    requires { at + 64 ≤ length output.old }
+    ensures front { take (at + 64) output.new ≡ take at output.old ++ last_of_four lanes.points }
+    ensures rest { drop (at + 64) output.new ≡ drop (at + 64) output.old }
+{
+    store_fours(last_of_four(lanes.points), &mut output[at..at + 64]);
 }

@@ -3,9 +3,11 @@
 use ascii_lanes::Lanes;
 use code_table::Lookup;
 use step_unicode::{State, Unit, Wrote};
+use wide_lanes::Wide;
 
-/// The bytes that sixteen points may take, read or written.
-pub const BLOCK: usize = 64;
+/// So many bytes are left of the input and of the room where a block is tried: no block takes more, read or
+/// written, and a kernel may look at a few that it leaves.
+pub const BLOCK: usize = 72;
 
 /// The units of sixteen points below 80 hex at the front of an input: the points, and how many bytes
 /// the units take.
@@ -15,10 +17,19 @@ pub struct Block {
     pub used: usize,
 }
 
+/// The units of eight points below 10000 hex, none a surrogate, at the front of an input, and how many
+/// bytes the units take.
+#[derive(Clone, Copy)]
+pub struct WideBlock {
+    pub wide: Wide,
+    pub used: usize,
+}
+
 /// A set of characters: one type for each, so that a loop is made for each pair of them.
 pub trait Charset {
     ghost use Rattle.std.specs.Prelude.{◌≡◌, ◌+◌, ◌<◌, ◌≤◌, length, IfSome, MatchOption};
     ghost use Rattle.ascii_lanes.specs.Plain.{ArePlain};
+    ghost use Rattle.wide_lanes.specs.Wide.{AreWide};
     ghost use Rattle.code_table.specs.HandsBack.{HandsBack};
     ghost use Rattle.step_unicode.specs.Answers.{IsAnswer, IsWrote};
     ghost use Rattle.chain_steps.specs.declared.recipe.Set.{Set};
@@ -66,7 +77,7 @@ pub trait Charset {
         requires state { IsStateIn (set self.now) state }
         requires some { BLOCK ≤ length input.now }
         ensures { IfSome result (λ b.
-            IsBlock (IsUnitOf (T.tables tables.now) (set self.now)) state
+            IsBlock ArePlain (IsUnitOf (T.tables tables.now) (set self.now)) state
             input.now b.lanes.points b.used) }
     {
         None
@@ -91,6 +102,43 @@ pub trait Charset {
         ensures { let ts = T.tables tables.now in MatchOption result (output.new ≡ output.old)
             (λ n. IsBlockPut (IsSpellableIn ts (set self.now)) (spelling_in ts (set self.now))
             state lanes.points at output.old output.new n) }
+    {
+        None
+    }
+    /// The units of eight points below 10000 hex, none a surrogate, at the front of the input, where the
+    /// set can tell them at once.
+    #[inline(always)]
+    fn wide<T: Lookup>(&self, tables: &T, state: State, input: &[u8]) -> Option<WideBlock>
+        requires ready { T.ready tables.now }
+        requires range { IsInRange (T.tables tables.now) (set self.now) }
+        requires state { IsStateIn (set self.now) state }
+        requires some { BLOCK ≤ length input.now }
+        ensures { IfSome result (λ b.
+            IsBlock AreWide (IsUnitOf (T.tables tables.now) (set self.now)) state
+            input.now b.wide.points b.used) }
+    {
+        None
+    }
+
+    /// Writes eight such points behind the first `at` bytes of `output`, where the set can write them at
+    /// once.
+    #[inline(always)]
+    fn put_wide<T: Lookup>(
+        &self,
+        tables: &T,
+        state: State,
+        wide: Wide,
+        output: &mut [u8],
+        at: usize,
+    ) -> Option<usize>
+        requires ready { T.ready tables.now }
+        requires range { IsInRange (T.tables tables.now) (set self.now) }
+        requires state { IsStateIn (set self.now) state }
+        requires wide { AreWide wide.points }
+        requires room { at + BLOCK ≤ length output.old }
+        ensures { let ts = T.tables tables.now in MatchOption result (output.new ≡ output.old)
+            (λ n. IsBlockPut (IsSpellableIn ts (set self.now)) (spelling_in ts (set self.now))
+            state wide.points at output.old output.new n) }
     {
         None
     }

@@ -3,10 +3,11 @@
 ghost use Rattle.step_unicode.specs.declared.set.Uni.TheVariants.{Utf16, Utf16Le, Utf16Be};
 ghost use Rattle.chain_steps.specs.declared.recipe.Set.TheVariants.{Unicode};
 
-use crate::charset::{Block, Charset};
+use crate::charset::{Block, Charset, WideBlock};
 use ascii_lanes::{Lanes, load_high_first, load_low_first, put_high_first, put_low_first};
 use code_table::Lookup;
 use step_unicode::{State, Unit, Wrote};
+use wide_lanes::Wide;
 
 /// UTF-16 with a mark.
 #[derive(Clone, Copy)]
@@ -30,6 +31,80 @@ impl Charset for Utf16 {
         at: usize,
     ) -> Wrote {
         step_unicode::utf16::write(state, point, output, at)
+    }
+
+    #[inline(always)]
+    fn block<T: Lookup>(&self, _tables: &T, state: State, input: &[u8]) -> Option<Block> {
+        match state {
+            State::Little => {
+                let lanes = load_low_first(input)?;
+                Some(Block { lanes, used: 32 })
+            }
+            State::Big => {
+                let lanes = load_high_first(input)?;
+                Some(Block { lanes, used: 32 })
+            }
+            State::Plain | State::Roman | State::Kanji => None,
+        }
+    }
+
+    #[inline(always)]
+    fn put_block<T: Lookup>(
+        &self,
+        _tables: &T,
+        state: State,
+        lanes: Lanes,
+        output: &mut [u8],
+        at: usize,
+    ) -> Option<usize> {
+        match state {
+            State::Little => {
+                put_low_first(lanes, output, at);
+                Some(32)
+            }
+            State::Big => {
+                put_high_first(lanes, output, at);
+                Some(32)
+            }
+            State::Plain | State::Roman | State::Kanji => None,
+        }
+    }
+
+    #[inline(always)]
+    fn wide<T: Lookup>(&self, _tables: &T, state: State, input: &[u8]) -> Option<WideBlock> {
+        match state {
+            State::Little => {
+                let wide = wide_lanes::load_low_first(input)?;
+                Some(WideBlock { wide, used: 16 })
+            }
+            State::Big => {
+                let wide = wide_lanes::load_high_first(input)?;
+                Some(WideBlock { wide, used: 16 })
+            }
+            State::Plain | State::Roman | State::Kanji => None,
+        }
+    }
+
+    #[inline(always)]
+    fn put_wide<T: Lookup>(
+        &self,
+        _tables: &T,
+        state: State,
+        wide: Wide,
+        output: &mut [u8],
+        at: usize,
+    ) -> Option<usize> {
+        match state {
+            State::Little => {
+                wide_lanes::put_low_first(wide, output, at);
+                Some(16)
+            }
+            State::Big => {
+                wide_lanes::put_high_first(wide, output, at);
+                Some(16)
+            }
+            State::Plain | State::Roman | State::Kanji => None,
+        }
     }
 }
 
@@ -75,6 +150,25 @@ impl Charset for Utf16Le {
         put_low_first(lanes, output, at);
         Some(32)
     }
+
+    #[inline(always)]
+    fn wide<T: Lookup>(&self, _tables: &T, _state: State, input: &[u8]) -> Option<WideBlock> {
+        let wide = wide_lanes::load_low_first(input)?;
+        Some(WideBlock { wide, used: 16 })
+    }
+
+    #[inline(always)]
+    fn put_wide<T: Lookup>(
+        &self,
+        _tables: &T,
+        _state: State,
+        wide: Wide,
+        output: &mut [u8],
+        at: usize,
+    ) -> Option<usize> {
+        wide_lanes::put_low_first(wide, output, at);
+        Some(16)
+    }
 }
 
 /// UTF-16, high bytes first.
@@ -118,5 +212,24 @@ impl Charset for Utf16Be {
     ) -> Option<usize> {
         put_high_first(lanes, output, at);
         Some(32)
+    }
+
+    #[inline(always)]
+    fn wide<T: Lookup>(&self, _tables: &T, _state: State, input: &[u8]) -> Option<WideBlock> {
+        let wide = wide_lanes::load_high_first(input)?;
+        Some(WideBlock { wide, used: 16 })
+    }
+
+    #[inline(always)]
+    fn put_wide<T: Lookup>(
+        &self,
+        _tables: &T,
+        _state: State,
+        wide: Wide,
+        output: &mut [u8],
+        at: usize,
+    ) -> Option<usize> {
+        wide_lanes::put_high_first(wide, output, at);
+        Some(16)
     }
 }

@@ -3,10 +3,11 @@
 ghost use Rattle.step_unicode.specs.declared.set.Uni.TheVariants.{Utf8};
 ghost use Rattle.chain_steps.specs.declared.recipe.Set.TheVariants.{Unicode};
 
-use crate::charset::{Block, Charset};
+use crate::charset::{Block, Charset, WideBlock};
 use ascii_lanes::{Lanes, load_plain, put_plain};
 use code_table::Lookup;
 use step_unicode::{State, Unit, Wrote};
+use wide_lanes::{Wide, load_utf8, put_utf8};
 
 /// UTF-8.
 #[derive(Clone, Copy)]
@@ -49,5 +50,26 @@ impl Charset for Utf8 {
     ) -> Option<usize> {
         put_plain(lanes, output, at);
         Some(16)
+    }
+
+    #[inline(always)]
+    fn wide<T: Lookup>(&self, _tables: &T, _state: State, input: &[u8]) -> Option<WideBlock> {
+        let read = load_utf8(input)?;
+        Some(WideBlock {
+            wide: read.wide,
+            used: read.used,
+        })
+    }
+
+    #[inline(always)]
+    fn put_wide<T: Lookup>(
+        &self,
+        _tables: &T,
+        _state: State,
+        wide: Wide,
+        output: &mut [u8],
+        at: usize,
+    ) -> Option<usize> {
+        Some(put_utf8(wide, output, at))
     }
 }

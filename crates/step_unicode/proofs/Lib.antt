@@ -8,3 +8,4 @@ pub mod Apart
 pub mod States
 pub mod ReadBack
 pub mod Short
+pub mod PointRuns

@@ -4,6 +4,7 @@
 
 pub mod ascii;
 mod laws;
+mod runs;
 mod set;
 mod small;
 pub mod ucs4;
@@ -13,6 +14,7 @@ pub mod utf8;
 mod wrote;
 
 pub use laws::{spellings_join, spellings_read_back, states_stay, units_are_apart};
+pub use runs::plain_run;
 pub use set::{State, Uni, Unit};
 pub use small::Small;
 pub use units::{read_unit, write_at, write_unit};

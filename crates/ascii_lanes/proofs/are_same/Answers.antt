@@ -1,6 +1,6 @@
-use Rattle.std.proofs.Common.{eqb-true}
+use Rattle.std.proofs.Common.{eqb-true, arith}
 use Rattle.ascii_lanes.proofs.Masks.{none_differ}
 use Rattle.ascii_lanes.proofs.are_same.Goals as goal
 
 pub returns : goal.returns
-returns c = λ none. none_differ c.args.a c.args.b c.fits-a.0 c.fits-b.0 (eqb-true _ 0 none)
+returns c = λ none. none_differ 32 (omega arith) c.args.a c.args.b c.fits-a.0 c.fits-b.0 (eqb-true _ 0 none)

@@ -1,0 +1,3 @@
+pub mod LaneLemmas
+pub mod Utf8Lemmas
+pub mod ReadLemmas

@@ -1,0 +1,13 @@
+//! Eight points below 10000 hex at once, none a surrogate, in one vector of numbers of 16 bits.
+#![tactic(auto)]
+
+mod read;
+mod units;
+mod utf8;
+mod words;
+
+pub use read::{Read, load_utf8};
+pub use units::{
+    Wide, load_high_first, load_low_first, put_high_first, put_in_fours, put_low_first,
+};
+pub use utf8::put_utf8;
