@@ -1,12 +1,10 @@
 //! Chains of small configurations.
 
-ghost use Rattle.std.specs.Prelude.{◌≡◌, ◌<◌, ◌≤◌, length};
-ghost use Rattle.text_lines.specs.Limits.{longest_text};
+ghost use Rattle.std.specs.Prelude.{◌≡◌, ◌<◌};
 
-use crate::small::make_graph;
+use crate::small::{make_graph, short};
 use chain_search::{Chain, least};
 use module_graph::Graph;
-use modules_conf::{read_bindings, read_modules};
 use names_alias::normal;
 use std::alloc::{AllocError, Global};
 use std::marker::Brand;
@@ -16,7 +14,8 @@ use std::test::Fail;
 use work_steps::Steps;
 
 /// The least chain between two names, with a counter of its own.
-fn chain<L: Ledger>(
+fn chain<L: Ledger, R: Abort>(
+    rt: &R,
     ledger: Blank,
     alloc: Global,
     graph: &Graph,
@@ -26,11 +25,9 @@ fn chain<L: Ledger>(
     requires name { ledger.name ≡ L.name }
     requires parts { ledger.parts ≡ L.parts }
     requires some { 0 < ledger.parts }
-    requires from { length from.now ≤ longest_text }
-    requires to { length to.now ≤ longest_text }
 {
     let mut steps: Steps<L> = Steps::new(ledger);
-    let (Ok(from), Ok(to)) = (normal(from), normal(to)) else {
+    let (Ok(from), Ok(to)) = (normal(short(rt, from)), normal(short(rt, to))) else {
         return Ok(None);
     };
     let (Some(source), Some(target)) = (graph.node_of(&from), graph.node_of(&to)) else {
@@ -59,7 +56,7 @@ fn finds_the_least_chain(rt: HostRuntime) -> Result<(), Fail> {
         (dear, b"utf-8", b"utf-8", [2, 3].as_slice(), 2),
     ] {
         let graph = make_graph(&rt, rt.alloc(), text)?;
-        let chain = chain::<Brand>(Blank::new(1), rt.alloc(), &graph, from, to)?.expect(
+        let chain = chain::<Brand, _>(&rt, Blank::new(1), rt.alloc(), &graph, from, to)?.expect(
             &rt, "a chain",
         );
         assert_eq!(rt; chain.ordinals.as_slice(), ordinals);
@@ -77,12 +74,12 @@ fn finds_none_where_none_leads(rt: HostRuntime) -> Result<(), Fail> {
         (b"sb", b"sb"),
         (b"utf-8", b"sa"),
     ] {
-        let chain = chain::<Brand>(Blank::new(1), rt.alloc(), &graph_of_one_way, from, to)?;
+        let chain = chain::<Brand, _>(&rt, Blank::new(1), rt.alloc(), &graph_of_one_way, from, to)?;
         assert!(rt; chain.is_none());
     }
     let unbound = make_graph(&rt, rt.alloc(), b"module SC// INTERNAL NOPE 1")?;
     assert_eq!(rt; unbound.skipped(), 1);
-    let chain = chain::<Brand>(Blank::new(1), rt.alloc(), &unbound, b"sc", b"utf-8")?;
+    let chain = chain::<Brand, _>(&rt, Blank::new(1), rt.alloc(), &unbound, b"sc", b"utf-8")?;
     assert!(rt; chain.is_none());
     Ok(())
 }

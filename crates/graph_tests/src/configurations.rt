@@ -3,6 +3,7 @@
 ghost use Rattle.std.specs.Prelude.{◌≤◌, length};
 ghost use Rattle.text_lines.specs.Limits.{longest_text};
 
+use crate::small::short;
 use modules_conf::{BindFault, ConfFault, Kind, aliases_of, read_bindings, read_modules};
 use std::alloc::{AllocError, Global};
 use std::test::Fail;
@@ -56,7 +57,7 @@ fn resolves_by_the_lines(rt: HostRuntime) -> Result<(), Fail> {
                 (b"s", b"S//"),
                 (b"utf8", b"UTF-8//"),
             ] {
-                match aliases.caller_name(text) {
+                match aliases.caller_name(short(&rt, text)) {
                     Err(fault) => assert!(rt; false, "{fault:?}"),
                     Ok(name) => assert!(rt; name.as_bytes() == want),
                 }
@@ -134,7 +135,7 @@ fn tells_the_first_fault(rt: HostRuntime) -> Result<(), Fail> {
         (b"#\nX table C/D\nX", BindFault::BadWord { line: 2 }),
         (b"X table C\nX table D\nX", BindFault::Twice { line: 2 }),
     ] {
-        match read_bindings(rt.alloc(), text) {
+        match read_bindings(rt.alloc(), short(&rt, text)) {
             Ok(_) => assert!(rt; false),
             Err(fault) => assert_eq!(rt; fault, want),
         }

@@ -1,14 +1,9 @@
 //! Two configurations: one of three lines, and one whose module isn't bound.
 
-ghost use Rattle.std.specs.Prelude.{◌≤◌, length};
-ghost use Rattle.text_lines.specs.Limits.{longest_text};
-
-use crate::small::make_graph;
+use crate::small::{make_graph, short};
 use module_graph::Graph;
-use modules_conf::{Kind, read_bindings, read_modules};
+use modules_conf::Kind;
 use names_alias::{Word, normal};
-use std::alloc::{AllocError, Global};
-use std::process::Abort;
 use std::test::Fail;
 
 #[test]
@@ -47,7 +42,7 @@ fn numbers_what_three_lines_say(rt: HostRuntime) -> Result<(), Fail> {
         (b"sb", Some(8)),
         (b"sc", None),
     ] {
-        let name = normal(text).expect(&rt, "a name");
+        let name = normal(short(&rt, text)).expect(&rt, "a name");
         assert_eq!(rt; graph.node_of(&name), node);
     }
     Ok(())

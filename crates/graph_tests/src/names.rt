@@ -1,8 +1,8 @@
 //! The happy path of each call, with the names that texts spell.
 
-ghost use Rattle.std.specs.Prelude.{◌≤◌, length};
-
+use crate::small::short;
 use names_alias::{Aliases, Name, NameFault, Word, builtin_set, internal, is_builtin, normal};
+use std::process::Abort;
 use std::test::Fail;
 
 #[test]
@@ -18,7 +18,7 @@ fn makes_normal_forms(rt: HostRuntime) {
             b"AAAAAAAAAAAAAAAAAAAAAAAAAAAAAAAAAAAAAAAAAAAAAAAAAAAAAAAAAAAAAA//",
         ),
     ] {
-        match normal(text) {
+        match normal(short(&rt, text)) {
             Ok(name) => assert!(rt; name.as_bytes() == want),
             Err(fault) => assert!(rt; false, "{fault:?}"),
         }
@@ -35,7 +35,7 @@ fn tells_the_first_cause(rt: HostRuntime) {
         (b"\"'", NameFault::Empty),
         (&[b'a'; 63], NameFault::LongName { len: 65 }),
     ] {
-        match normal(text) {
+        match normal(short(&rt, text)) {
             Ok(_) => assert!(rt; false),
             Err(fault) => assert_eq!(rt; fault, want),
         }
@@ -49,14 +49,12 @@ fn knows_the_built_in_names(rt: HostRuntime) {
     }
     assert!(rt; builtin_set(5).as_bytes() == b"UCS-4//".as_slice());
     assert!(rt; is_builtin(&internal()) && internal() == internal().copied());
-    assert!(rt; !is_builtin(&name_or_internal(b"latin1")));
+    assert!(rt; !is_builtin(&name_or_internal(&rt, b"latin1")));
 }
 
 /// The name of a text, or that of the set between all others.
-fn name_or_internal(text: &[u8]) -> Name
-    requires { length text.now ≤ 16777216 }
-{
-    match normal(text) {
+fn name_or_internal(rt: &impl Abort, text: &[u8]) -> Name {
+    match normal(short(rt, text)) {
         Ok(name) => name,
         Err(_) => internal(),
     }
@@ -73,10 +71,8 @@ fn bounds_words(rt: HostRuntime) {
 }
 
 /// Whether a text names the set of these bytes.
-fn names(aliases: &Aliases, text: &[u8], want: &[u8]) -> bool
-    requires { length text.now ≤ 16777216 }
-{
-    match aliases.caller_name(text) {
+fn names(rt: &impl Abort, aliases: &Aliases, text: &[u8], want: &[u8]) -> bool {
+    match aliases.caller_name(short(rt, text)) {
         Ok(name) => name.as_bytes() == want,
         Err(_) => false,
     }
@@ -85,17 +81,17 @@ fn names(aliases: &Aliases, text: &[u8], want: &[u8]) -> bool
 #[test]
 fn resolves_once(rt: HostRuntime) -> Result<(), Fail> {
     let mut aliases = Aliases::new(rt.alloc());
-    assert!(rt; names(&aliases, b"utf8", b"UTF-8//"));
-    assert!(rt; names(&aliases, b"us-ascii", b"ASCII//"));
+    assert!(rt; names(&rt, &aliases, b"utf8", b"UTF-8//"));
+    assert!(rt; names(&rt, &aliases, b"us-ascii", b"ASCII//"));
     assert!(rt; matches!(aliases.caller_name(b"internal"), Err(NameFault::Reserved)));
-    aliases.add(&name_or_internal(b"x"), &name_or_internal(b"y"))?;
-    aliases.add(&name_or_internal(b"y"), &builtin_set(1))?;
-    aliases.add(&name_or_internal(b"x"), &builtin_set(0))?;
-    aliases.add(&name_or_internal(b"z"), &internal())?;
-    assert!(rt; names(&aliases, b"X", b"Y//"));
-    assert!(rt; aliases.resolve(&name_or_internal(b"y")) == builtin_set(1));
+    aliases.add(&name_or_internal(&rt, b"x"), &name_or_internal(&rt, b"y"))?;
+    aliases.add(&name_or_internal(&rt, b"y"), &builtin_set(1))?;
+    aliases.add(&name_or_internal(&rt, b"x"), &builtin_set(0))?;
+    aliases.add(&name_or_internal(&rt, b"z"), &internal())?;
+    assert!(rt; names(&rt, &aliases, b"X", b"Y//"));
+    assert!(rt; aliases.resolve(&name_or_internal(&rt, b"y")) == builtin_set(1));
     assert!(rt; matches!(aliases.caller_name(b"z"), Err(NameFault::Reserved)));
-    aliases.fix(&name_or_internal(b"x"))?;
-    assert!(rt; names(&aliases, b"x", b"X//"));
+    aliases.fix(&name_or_internal(&rt, b"x"))?;
+    assert!(rt; names(&rt, &aliases, b"x", b"X//"));
     Ok(())
 }
