@@ -1,7 +1,7 @@
 -- What a runtime keeps. No public clause cites it.
 use Rattle.std.specs.Prelude.{◌≡◌, ◌<◌, ℕ, true, List, map, length}
 use Rattle.std.specs.List.{AllByRecursion}
-use Rattle.module_graph.specs.Graph.{Shape}
+use Rattle.module_graph.specs.Graph.{Shape, IsGraph}
 use Rattle.runtime_histories.specs.Charmaps.{HasText}
 use Rattle.runtime_histories.specs.Deeds.{Deeds, Loaded, live, marks}
 use Rattle.runtime_histories.specs.Legal.{AreRead, Legal, loaded_modules}
@@ -19,6 +19,7 @@ IsComplete log keeps = (m : ℕ) → resident (marks log) m ≡ true → among m
 -- live ones, each with all tables of its recipe.
 pub record IsBook (graph : Shape) (keeps : List Loaded) (r : Runtime) : Type 0 where
   pub graph_is : r.books.graph ≡ graph
+  pub whole : IsGraph graph
   pub text : HasText graph
   pub known : AllByRecursion (λ m. m < length graph.kinds) (loaded_modules keeps)
   pub keeps_is : keeps ≡ kept r.books.pages (log_of r)

@@ -1,6 +1,6 @@
 -- The runtime of one thread as its callers see it.
-use Rattle.std.specs.Prelude.{◌≡◌, ℕ, ◌==◌, not, if◌then◌else◌, List, [], ◌∷◌, Option, Some, None, IsSome}
-use Rattle.std.specs.List.{filter}
+use Rattle.std.specs.Prelude.{ℕ, ◌==◌, not, if◌then◌else◌, List, [], ◌∷◌, Option, IsSome}
+use Rattle.std.specs.List.{filter, find}
 use Rattle.code_pairs.specs.Tables.{Tables}
 use Rattle.names_alias.specs.Aliases.{AliasTable}
 use Rattle.chain_steps.specs.Machine.{Machine}
@@ -40,8 +40,7 @@ setting_of r = record {
 
 -- The descriptor of a number.
 abbrev pub held_at : ℕ → List Held → Option Held
-held_at n [] = None
-held_at n (h ∷ hs) = if h.number == n then Some h else held_at n hs
+held_at n hs = find (λ h. h.number == n) hs
 
 -- The descriptors, where that of a number has come to another machine.
 abbrev pub moved : ℕ → Machine → List Held → List Held

@@ -158,7 +158,7 @@ impl<L: Library> Book<L> {
             Ok(begun) => begun,
             Err(why) => return Err(why),
         };
-        match enter(
+        let Ok(number) = enter(
             self.alloc,
             &mut self.counts,
             &self.graph,
@@ -166,10 +166,10 @@ impl<L: Library> Book<L> {
             &mut self.held,
             caller,
             begun,
-        ) {
-            Ok(number) => Ok(number),
-            Err(_) => Err(Refusal::Memory),
-        }
+        ) else {
+            return Err(Refusal::Memory);
+        };
+        Ok(number)
     }
 
     /// Closes a descriptor. It takes no memory, and there is always room for its entry.

@@ -9,7 +9,7 @@ ghost use Rattle.conversion_book.specs.Descriptors.{held_as, AllRun};
 ghost use Rattle.conversion_book.specs.Runtime.{held_at, without};
 
 use crate::shared::SharedTables;
-use chain_steps::{Progress, Reset, Runner};
+use chain_steps::{Converter, Progress, Reset, Runner};
 
 /// A live descriptor: the position of its opening, the tables of its chain, and where its conversion
 /// stands.
@@ -18,6 +18,37 @@ pub struct Descriptor {
     pub number: u64,
     pub tables: SharedTables,
     pub runner: Runner,
+}
+
+impl Converter for Descriptor {
+    ghost use Rattle.std.specs.Prelude.{◌≡◌, refl};
+    ghost use Rattle.std.proofs.Common.{◌∙◌};
+    ghost use Rattle.code_table.specs.WellFormed.{well_formed_at};
+    ghost use Rattle.conversion_book.specs.Descriptors.{held_as, IsRunnable};
+
+    ghost tables = { λ d. d.tables };
+
+    ghost machine = { λ d. d.runner };
+
+    ghost ready = { λ d. IsRunnable (held_as d) };
+
+    ghost kept = { λ d e. e.number ≡ d.number };
+
+    fn convert(&mut self, input: &[u8], output: &mut [u8]) -> Progress {
+        self.runner.convert(&mut self.tables, input, output)
+    }
+
+    fn reset(&mut self, output: &mut [u8]) -> Reset {
+        self.runner.reset(&mut self.tables, output)
+    }
+
+    ghost well_formed = { λ d k ready. well_formed_at d.tables k ready.well_formed };
+
+    ghost can_run = { λ _ ready. ready.can_run };
+
+    ghost kept_none = { λ _. refl };
+
+    ghost kept_twice = { λ _ _ _ first second. second ∙ first };
 }
 
 /// The place of the descriptor of a number.
@@ -48,12 +79,7 @@ pub fn convert_held(
         (λ ts m n. IsCall ts m n input.now output.old output.new result) }
 {
     match place_of(held, number) {
-        Some(at) => {
-            let descriptor = &mut held[at];
-            descriptor
-                .runner
-                .convert(&mut descriptor.tables, input, output)
-        }
+        Some(at) => held[at].convert(input, output),
         None => unreachable!(),
     }
 }
@@ -61,14 +87,12 @@ pub fn convert_held(
 /// Writes the return sequence of the descriptor of a number.
 pub fn reset_held(held: &mut [Descriptor], number: u64, output: &mut [u8]) -> Reset
     requires there { IsSome (held_at number (map held_as held.old)) }
+    requires runs { AllRun (map held_as held.old) }
     ensures { Moves (map held_as held.old) (map held_as held.new) number
         (λ ts m n. IsReset m n output.old output.new result) }
 {
     match place_of(held, number) {
-        Some(at) => {
-            let descriptor = &mut held[at];
-            descriptor.runner.reset(&mut descriptor.tables, output)
-        }
+        Some(at) => held[at].reset(output),
         None => unreachable!(),
     }
 }

@@ -1,7 +1,8 @@
 //! Modules that are kept, with their tables.
-ghost use Rattle.std.specs.Prelude.{◌≡◌, ◌++◌, ◌∷◌, [], List, length, map, IfOk, OnOk, MatchOption, vec_len, vec_capacity, ◌+◌, ◌≤◌, ◌<◌};
-ghost use Rattle.runtime_histories.specs.Deeds.{Loaded};
+ghost use Rattle.std.specs.Prelude.{◌≡◌, ◌++◌, ◌∷◌, [], List, length, map, IfOk, OnOk, MatchOption, vec_len, vec_capacity, ◌+◌, ◌≤◌, ◌<◌, nat_lt, ◌&&◌};
+ghost use Rattle.runtime_histories.specs.Deeds.{Loaded, marks};
 ghost use Rattle.runtime_histories.specs.Entries.{deeds, loaded_of};
+ghost use Rattle.runtime_histories.specs.Residence.{resident};
 ghost use Rattle.conversion_book.specs.ChainTables.{tables_of, chain_tables};
 ghost use Rattle.conversion_book.specs.Preparing.{still_kept};
 ghost use Rattle.conversion_book.specs.Descriptors.{kept_as};
@@ -104,6 +105,15 @@ pub fn chain_tables(
     Ok(all)
 }
 
+/// Whether a module is resident; one that isn't known isn't.
+fn is_resident(graph: &Graph, counts: &Counts, module: u32) -> bool
+    requires { graph.now ≡ counts.now.graph }
+    ensures { result ≡ (nat_lt «module» (length counts.now.graph.kinds)
+        && resident (marks (deeds counts.now.journal)) «module») }
+{
+    module < graph.modules() && counts.resident(module)
+}
+
 /// Leaves out the modules that aren't resident.
 pub fn keep_resident(kept: &mut Vec<Kept>, graph: &Graph, counts: &Counts)
     requires graph { graph.now ≡ counts.now.graph }
@@ -111,8 +121,14 @@ pub fn keep_resident(kept: &mut Vec<Kept>, graph: &Graph, counts: &Counts)
         ≡ still_kept (length counts.now.graph.kinds) (deeds counts.now.journal) (map kept_as kept.old.items) }
     ensures room { vec_capacity kept.new ≡ vec_capacity kept.old }
 {
-    let modules = graph.modules();
-    kept.retain(|item| item.module < modules && counts.resident(item.module));
+    kept.retain(
+        |item|
+            requires { graph.now ≡ counts.now.graph }
+            ensures value { result ≡ (nat_lt item.now.«module» (length counts.entry.now.graph.kinds)
+                && resident (marks (deeds counts.entry.now.journal)) item.now.«module») }
+            ensures same { (graph.exit ≡ graph.entry) × (counts.exit ≡ counts.entry) }
+        { is_resident(graph, counts, item.module) },
+    );
 }
 
 /// Takes in the modules that were loaded, for which there is room, and leaves out those that aren't

@@ -56,7 +56,8 @@ fn share_all(
     ensures { IfOk result (λ v. map arc_value v.items ≡ tables.items) }
 {
     let mut list = Vec::new(alloc);
-    for table in tables {
+    let mut rest = tables.into_iter();
+    while let Some(table) = rest.next() {
         push_shared(alloc, &mut list, table)?;
     }
     Ok(list)

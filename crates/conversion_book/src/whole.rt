@@ -10,7 +10,7 @@ ghost use Rattle.conversion_book.specs.Descriptors.{held_as, IsRunnable, AllRun}
 ghost use Rattle.conversion_book.specs.Runtime.{held_at};
 
 use crate::descriptor::{Descriptor, place_of};
-use chain_steps::{Bound, Converter};
+use chain_steps::Converter;
 use std::alloc::{AllocError, Global};
 use step_buffers::{Buffers, Finish, LONGEST_PIECE, Session};
 
@@ -56,12 +56,8 @@ fn convert_by(
     ensures tables { descriptor.new.tables ≡ descriptor.old.tables }
 {
     let mut session = Session::over(alloc, buffers, input.len() as u64)?;
-    let mut converter = Bound {
-        runner: &mut descriptor.runner,
-        tables: &mut descriptor.tables,
-    };
-    feed_all(&mut session, &mut converter, input)?;
-    Ok(session.end(&mut converter))
+    feed_all(&mut session, descriptor, input)?;
+    Ok(session.end(descriptor))
 }
 
 /// Converts a whole input by the descriptor of a number.

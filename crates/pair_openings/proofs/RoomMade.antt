@@ -103,7 +103,7 @@ want_left a m s d old new caller from to (NoCharmap n w) known h = absurd (false
 want_left a m s d old new caller from to (BadCharmap n w f) known h = absurd (false≢true known)
 want_left a m s d old new caller from to (StoreFull n l) known h = absurd (false≢true known)
 want_left a m s d old new caller from to (JournalFull n) known h = absurd (false≢true known)
-want_left a m s d old new caller from to Memory known h = (s, subst (λ (z : Ground). Loses z old new from to) (ground_same a m s d) h)
+want_left a m s d old new caller from to Memory known h = (s, subst (λ (z : Ground). Loses z old new from to) (ground_same a m m s d) h)
 
 -- Room was refused before anything was asked for.
 pub room_refused : (a m : Booked) → Stays a m → (d : List ℕ) (h : Holdings) (caller : ℕ) (from to : Asked) (why : Refusal) → RefusesRoom a why → HasRefused d a m h h caller from to why

@@ -1,4 +1,4 @@
-use Rattle.std.proofs.Common.{◌≡◌, ◌∙◌, ◌+◌, ◌≤◌, ℕ, sym, ap, subst, refl, length, List}
+use Rattle.std.proofs.Common.{◌≡◌, ◌∙◌, ◌+◌, ◌≤◌, ℕ, sym, ap, subst, refl, length, List, rules}
 use Rattle.module_counts.specs.Counting.{Booked}
 use Rattle.runtime_histories.specs.declared.refusals.Refusal.{Refusal}
 use Rattle.runtime_histories.specs.declared.entries.Reply.TheVariants.{Refused}
@@ -29,11 +29,11 @@ returns-in-Ok-decide-clause-ok g c =
     let from = asked_of c.args.aliases.now c.args.from.now in
     let to = asked_of c.args.aliases.now c.args.to.now in
     let ok = subst (λ (z : Shape). Answers (record { directory = d; graph = z; pages = m.pages; log = deeds m.journal }) old new c.asked-from.result c.asked-to.result c.in-Ok-decide.opening) graph c.in-Ok-decide.ensures.ok in
-    let there = subst (λ (z : Ground). Answers z old new c.asked-from.result c.asked-to.result c.in-Ok-decide.opening) (ground_same a m stays d) ok in
+    let there = subst (λ (z : Ground). Answers z old new c.asked-from.result c.asked-to.result c.in-Ok-decide.opening) (ground_same a m m stays d) ok in
     record {
       stays = stays;
-      limit = c.reserve.ensures.within;
-      room = subst (λ (z : List Entry). length (live (deeds z)) + 2 ≤ m.spare) (sym c.reserve.ensures.journal) c.reserve.ensures.ok;
+      limit = search rules;
+      room = subst (λ (z : List Entry). length (live (deeds z)) + 2 ≤ m.spare) (sym c.reserve.ensures.journal) (search rules);
       names = (c.asked-from.ensures.value, c.asked-to.ensures.value);
       answers = subst (λ (z : Asked). Answers (ground_of d a) old new z to c.in-Ok-decide.opening) c.asked-from.ensures.value
           (subst (λ (z : Asked). Answers (ground_of d a) old new c.asked-from.result z c.in-Ok-decide.opening) c.asked-to.ensures.value there);
