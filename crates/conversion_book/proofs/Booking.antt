@@ -1,8 +1,7 @@
 -- What a runtime keeps, from one call to the next.
-use Rattle.std.proofs.Common.{◌≡◌, ◌⊎◌, ℕ, suc, ◌+◌, ◌<◌, ◌≤◌, Bool, true, false, List, [], ◌∷◌, ◌++◌, length, map, sym, refl, ap, ◌∙◌, subst, inl, inr, ⊎_elim, true≢false, Some, Option, arith}
+use Rattle.std.proofs.Common.{◌≡◌, ℕ, suc, ◌<◌, List, [], ◌∷◌, ◌++◌, length, map, sym, refl, ap, ◌∙◌, subst, true≢false, Some, Option, arith}
 use Rattle.std.specs.List.{All, AllByRecursion, flat_map, cons_option}
 use Rattle.pair_openings.proofs.Deciding.{absent_known}
-use Rattle.names_alias.specs.Aliases.{AliasTable}
 use Rattle.module_graph.specs.Graph.{Shape, IsGraph}
 use Rattle.chain_search.specs.declared.chain.Chain.{Chain}
 use Rattle.chain_steps.specs.declared.recipe.Recipe.{Recipe}
@@ -10,30 +9,25 @@ use Rattle.chain_steps.specs.Chains.{initial}
 use Rattle.chain_steps.specs.Machine.{Machine}
 use Rattle.chain_recipes.specs.Recipes.{recipe_for}
 use Rattle.outside.specs.Moments.{Holdings}
-use Rattle.charmap_library.specs.Fetching.{source_of}
 use Rattle.runtime_histories.specs.declared.entries.Entry.{Entry}
 use Rattle.runtime_histories.specs.declared.entries.Event.TheVariants as events
 use Rattle.runtime_histories.specs.declared.entries.Reply.{Reply}
 use Rattle.runtime_histories.specs.declared.entries.Reply.TheVariants.{Opened, Refused}
-use Rattle.runtime_histories.specs.declared.loads.Load.{Load}
 use Rattle.runtime_histories.specs.declared.refusals.Asked.{Asked}
 use Rattle.runtime_histories.specs.declared.refusals.Asked.TheVariants.{Good, Bad}
-use Rattle.runtime_histories.specs.declared.refusals.End.TheVariants.{From, To}
 use Rattle.runtime_histories.specs.declared.refusals.Refusal.{Refusal}
-use Rattle.runtime_histories.specs.declared.refusals.Refusal.TheVariants.{BadName, NoConversion, LibraryFault, NoCharmap, BadCharmap, StoreFull, JournalFull, Memory}
 use Rattle.runtime_histories.specs.Charmaps.{HasText, AreTablesOf}
-use Rattle.runtime_histories.specs.Deeds.{Deeds, Act, act, opens, closes, rests, Pair, Loaded, live, marks, IsLive}
+use Rattle.runtime_histories.specs.Deeds.{Deeds, Act, act, opens, closes, rests, Pair, Loaded, marks, IsLive}
 use Rattle.runtime_histories.specs.Entries.{deeds, deed_of, loaded_of}
 use Rattle.runtime_histories.specs.Fair.{IsBalanced}
 use Rattle.runtime_histories.specs.Legal.{AreRead, IsAnswered, IsOpened, Legal, Next, absent_among, loaded_modules}
-use Rattle.runtime_histories.specs.Places.{among}
 use Rattle.runtime_histories.specs.Residence.{resident}
 use Rattle.module_counts.proofs.Living.{live_rests}
 use Rattle.runtime_histories.specs.Settings.{Setting, Source, Leads, modules_of, charmaps_at}
 use Rattle.runtime_histories.proofs.Legality.{deeds-snoc, Legal-snoc, sound_legal, length-deeds}
 use Rattle.module_counts.specs.Counting.{Booked, IsKnown}
-use Rattle.pair_openings.specs.Answers.{Answers, Loses, reply_of}
-use Rattle.pair_openings.specs.Entered.{Enters, Leaves, Stays, HasRefused, ground_of, entry_of}
+use Rattle.pair_openings.specs.Answers.{reply_of}
+use Rattle.pair_openings.specs.Entered.{Stays, entry_of}
 use Rattle.pair_openings.specs.declared.planning.Opening.{Opening}
 use Rattle.conversion_book.specs.ChainTables.{kept, chain_tables}
 use Rattle.conversion_book.specs.Descriptors.{IsRunnable, AllRun}

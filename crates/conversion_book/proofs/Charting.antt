@@ -1,10 +1,10 @@
 -- The tables and the recipe of a chain.
-use Rattle.std.proofs.Common.{◌≡◌, ℕ, zero, suc, ◌+◌, ◌<◌, ◌≤◌, ◌^◌, eqb, Bool, true, false, ◌||◌, cond, List, [], ◌∷◌, ◌++◌, length, map, sym, refl, ap, ◌∙◌, subst, arith, Option, Some, None, ◌⊎◌, inl, inr, true≢false, eq-eqb, eqb-true, length-append}
+use Rattle.std.proofs.Common.{◌≡◌, ℕ, suc, ◌+◌, ◌<◌, ◌≤◌, ◌^◌, eqb, Bool, true, false, ◌||◌, cond, List, [], ◌∷◌, ◌++◌, length, map, sym, refl, ap, ◌∙◌, subst, arith, Option, Some, None, ◌⊎◌, inl, inr, true≢false, eq-eqb, eqb-true, length-append}
 use Rattle.std.specs.Prelude.{slice_get}
-use Rattle.std.specs.List.{All, AllByRecursion, find, filter_map, flat_map, cons_option}
+use Rattle.std.specs.List.{All, AllByRecursion, find, flat_map, cons_option}
 use Rattle.std.specs.Option.{option_and_then}
 use Rattle.std.proofs.lemmas.List.Elements.{All-append, All-nil, All-cons}
-use Rattle.code_pairs.specs.Tables.{Table, Tables}
+use Rattle.code_pairs.specs.Tables.{Tables}
 use Rattle.code_table.specs.WellFormed.{AreWellFormed}
 use Rattle.modules_conf.specs.declared.kind.Kind.{Kind}
 use Rattle.modules_conf.specs.declared.kind.Kind.TheVariants as kinds
@@ -13,21 +13,18 @@ use Rattle.module_graph.specs.Graph.{Shape, IsGraph}
 use Rattle.module_graph.specs.Laws.{EdgesAreFound}
 use Rattle.chain_search.specs.declared.chain.Chain.{Chain}
 use Rattle.chain_search.specs.Chains.{Way, ordinals_of}
-use Rattle.chain_search.specs.Answer.{TellsLeast}
 use Rattle.chain_search.specs.Laws.{LeastChainsAreShort}
-use Rattle.chain_steps.specs.declared.recipe.Set.{Set}
 use Rattle.chain_steps.specs.declared.recipe.Joint.{Joint}
 use Rattle.chain_steps.specs.declared.recipe.Recipe.{Recipe}
 use Rattle.chain_steps.specs.Sets.{IsInRange}
-use Rattle.chain_steps.specs.Carry.{AreInRange}
 use Rattle.chain_steps.specs.Chains.{CanRun}
 use Rattle.chain_recipes.specs.declared.stage.Stage.{Stage}
-use Rattle.chain_recipes.specs.Recipes.{table_count, read_by, written_by, kind_at, stage_of, stages, joint_between, joints_behind, last_behind, recipe_by, edges_at, recipe_for}
-use Rattle.runtime_histories.specs.Charmaps.{IsTableOf, AreTablesOf}
+use Rattle.chain_recipes.specs.Recipes.{table_count, read_by, written_by, kind_at, stages, joint_between, joints_behind, last_behind, recipe_by, edges_at, recipe_for}
+use Rattle.runtime_histories.specs.Charmaps.{AreTablesOf}
 use Rattle.runtime_histories.specs.Deeds.{Loaded}
 use Rattle.runtime_histories.specs.Legal.{AreRead, loaded_modules}
 use Rattle.runtime_histories.specs.Places.{among}
-use Rattle.runtime_histories.specs.Settings.{Source, Leads, module_at, modules_of, charmaps_of, charmaps_in, charmaps_at}
+use Rattle.runtime_histories.specs.Settings.{Source, modules_of, charmaps_in, charmaps_at}
 use Rattle.conversion_book.specs.ChainTables.{tables_of, chain_tables}
 use Rattle.conversion_book.specs.Preparing.{IsLed}
 

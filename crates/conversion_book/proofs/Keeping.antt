@@ -1,5 +1,5 @@
 -- The modules that are kept, from one deed to the next.
-use Rattle.std.proofs.Common.{◌≡◌, ◌⊎◌, ℕ, ◌<◌, eqb, Bool, true, false, not, ◌&&◌, ◌||◌, cond, List, [], ◌∷◌, ◌++◌, length, map, sym, refl, ap, ◌∙◌, subst, inl, inr, ⊎_elim, append-nil, append_assoc, true≢false, eq-eqb, eqb-true}
+use Rattle.std.proofs.Common.{◌≡◌, ◌⊎◌, ℕ, ◌<◌, eqb, Bool, true, false, not, ◌&&◌, ◌||◌, cond, List, [], ◌∷◌, ◌++◌, map, sym, refl, ap, ◌∙◌, inl, inr, ⊎_elim, append-nil, append_assoc, true≢false, eq-eqb, eqb-true}
 use Rattle.std.specs.Prelude.{nat_lt}
 use Rattle.std.specs.List.{list_any, filter, AllByRecursion}
 use Rattle.std.proofs.lemmas.Bool.{lt-ltb}
@@ -11,7 +11,7 @@ use Rattle.runtime_histories.specs.Residence.{resident}
 use Rattle.runtime_histories.specs.Places.{Placed, among, placed_at, place_loads, place_deed, still, places_from, places}
 use Rattle.runtime_histories.specs.Settings.{Source}
 use Rattle.runtime_histories.specs.Legal.{absent_among, loaded_modules, AreRead}
-use Rattle.runtime_histories.proofs.Basics.{any-append, any-in}
+use Rattle.runtime_histories.proofs.Basics.{any-append}
 use Rattle.runtime_histories.proofs.Pinning.{places-snoc}
 use Rattle.module_counts.proofs.Living.{marks_rests}
 use Rattle.conversion_book.specs.ChainTables.{kept_of, kept}

@@ -1,14 +1,12 @@
 -- A pair is opened.
-use Rattle.std.proofs.Common.{◌≡◌, ◌⊎◌, ℕ, ◌+◌, ◌<◌, ◌≤◌, List, [], ◌∷◌, ◌++◌, length, map, sym, refl, ap, ◌∙◌, subst, inl, inr, ⊎_elim, Some}
-use Rattle.std.specs.List.{AllByRecursion, flat_map}
+use Rattle.std.proofs.Common.{◌≡◌, ℕ, List, [], ◌∷◌, ◌++◌, length, map, sym, refl, ap, ◌∙◌, subst, Some}
+use Rattle.std.specs.List.{flat_map}
 use Rattle.code_pairs.specs.Tables.{Tables}
 use Rattle.module_graph.specs.Graph.{Shape}
 use Rattle.chain_steps.specs.Chains.{initial}
 use Rattle.chain_recipes.specs.Recipes.{recipe_for}
 use Rattle.outside.specs.Moments.{Holdings}
-use Rattle.charmap_library.specs.Fetching.{source_of}
 use Rattle.runtime_histories.specs.declared.entries.Entry.{Entry}
-use Rattle.runtime_histories.specs.declared.entries.Event.TheVariants as events
 use Rattle.runtime_histories.specs.declared.entries.Reply.TheVariants.{Refused}
 use Rattle.runtime_histories.specs.declared.refusals.Asked.{Asked}
 use Rattle.runtime_histories.specs.declared.refusals.Asked.TheVariants.{Good, Bad}
@@ -16,14 +14,14 @@ use Rattle.runtime_histories.specs.declared.refusals.Refusal.{Refusal}
 use Rattle.runtime_histories.specs.declared.refusals.Refusal.TheVariants.{BadName, NoConversion, LibraryFault, NoCharmap, BadCharmap, StoreFull, JournalFull, Memory}
 use Rattle.runtime_histories.specs.Charmaps.{AreTablesOf}
 use Rattle.runtime_histories.specs.Deeds.{Loaded}
-use Rattle.runtime_histories.specs.Entries.{deeds, deed_of, loaded_of}
+use Rattle.runtime_histories.specs.Entries.{deeds, loaded_of}
 use Rattle.runtime_histories.specs.Legal.{IsAnswered, Next}
 use Rattle.runtime_histories.specs.Places.{places}
 use Rattle.runtime_histories.specs.Settings.{Setting, charmaps_at}
 use Rattle.module_counts.specs.Counting.{Booked}
 use Rattle.module_counts.specs.Stocks.{lists, places_for}
-use Rattle.pair_openings.specs.Answers.{Answers, Loses, Replies, reply_of}
-use Rattle.pair_openings.specs.Entered.{Enters, Leaves, Stays, HasBegun, HasRefused, IsNextIn, KeepsLimit, ground_of, entry_of}
+use Rattle.pair_openings.specs.Answers.{Answers, Loses, reply_of}
+use Rattle.pair_openings.specs.Entered.{Leaves, HasBegun, HasRefused, IsNextIn, KeepsLimit, ground_of, entry_of}
 use Rattle.pair_openings.specs.Loading.{Ground}
 use Rattle.pair_openings.specs.declared.begun.Begun.{Begun}
 use Rattle.pair_openings.proofs.Answering.{lost_late}
@@ -33,7 +31,7 @@ use Rattle.conversion_book.specs.Inside.{IsBook}
 use Rattle.conversion_book.specs.Openings.{Opens, Refuses}
 use Rattle.conversion_book.specs.Preparing.{IsEntered, IsLed, still_kept}
 use Rattle.conversion_book.specs.Runtime.{Held, Runtime, log_of, setting_of}
-use Rattle.conversion_book.proofs.Booking.{IsOpeningOf, opening_of_names, opening_led, deed_opens, deed_rests, with_books, book_stays, book_rests, book_opens, tables_are}
+use Rattle.conversion_book.proofs.Booking.{IsOpeningOf, opening_of_names, opening_led, deed_opens, deed_rests, book_stays, book_rests, book_opens, tables_are}
 
 module _ (graph : Shape) (keeps : List Loaded) (r : Runtime) (book : IsBook graph keeps r) where
   abbrev s : Setting

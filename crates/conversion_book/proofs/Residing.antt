@@ -1,16 +1,15 @@
 -- What becomes resident was used or released.
-use Rattle.std.proofs.Common.{◌≡◌, ◌⊎◌, ℕ, ◌+◌, ◌<◌, eqb, Bool, true, false, ◌&&◌, ◌||◌, cond, List, [], ◌∷◌, ◌++◌, length, map, sym, refl, ap, ◌∙◌, subst, arith, inl, inr, ⊎_elim, append-nil, append_assoc, true≢false, Option, Some, None}
-use Rattle.std.specs.List.{list_any}
+use Rattle.std.proofs.Common.{◌≡◌, ◌⊎◌, ℕ, ◌+◌, ◌<◌, eqb, Bool, true, false, ◌||◌, cond, List, [], ◌∷◌, ◌++◌, map, sym, refl, ap, ◌∙◌, arith, inl, inr, ⊎_elim, append-nil, append_assoc, true≢false, Option, Some, None}
 use Rattle.std.specs.Prelude.{nat_lt}
 use Rattle.std.proofs.Math.Dec.{ltb}
 use Rattle.std.proofs.lemmas.Bool.{ltb-true, lt-ltb}
-use Rattle.runtime_histories.specs.Deeds.{Mark, uses, releases, Deeds, Desc, Pair, Loaded, act, opens, closes, rests, openings, closed, pair_live, marks, IsIn, IsLive}
+use Rattle.runtime_histories.specs.Deeds.{Mark, uses, releases, Deeds, Desc, Pair, Loaded, act, opens, closes, closed, pair_live, marks, IsLive}
 use Rattle.runtime_histories.specs.Residence.{is_own, is_use, is_release, is_any_release, count, first_of, after_last, is_fresh, is_held, resident}
 use Rattle.runtime_histories.specs.Fair.{times, IsBalanced}
 use Rattle.runtime_histories.specs.Places.{among}
 use Rattle.runtime_histories.proofs.Balance.{held}
 use Rattle.module_counts.proofs.Tracking.{count-snoc}
-use Rattle.module_counts.proofs.Living.{marks_opens, marks_closes, marks_rests}
+use Rattle.module_counts.proofs.Living.{marks_opens, marks_closes}
 
 or_true : (a b : Bool) → (a || b) ≡ true → (a ≡ true) ⊎ (b ≡ true)
 or_true true b e = inl refl

@@ -1,7 +1,7 @@
 -- The words of modules can stand in a path.
-use Rattle.std.proofs.Common.{◌≡◌, ◌⊎◌, ℕ, ◌+◌, ◌<◌, ◌≤◌, eqb, Bool, true, false, ◌&&◌, ◌||◌, not, List, [], ◌∷◌, length, sym, refl, ap, ◌∙◌, subst, arith, inl, inr, ⊎_elim, true≢false, eqb-true, Some, Option, zero, suc, get_or}
-use Rattle.std.specs.Prelude.{codes, nat_le, slice_get, slice_index}
-use Rattle.std.specs.List.{list_any, list_all, All, AllByRecursion, AllPass}
+use Rattle.std.proofs.Common.{◌≡◌, ◌⊎◌, ℕ, ◌<◌, eqb, Bool, true, false, ◌&&◌, ◌||◌, not, List, [], ◌∷◌, length, sym, refl, subst, arith, inl, inr, ⊎_elim, true≢false, eqb-true, zero, suc}
+use Rattle.std.specs.Prelude.{codes, nat_le, slice_index}
+use Rattle.std.specs.List.{list_any, list_all, All, AllByRecursion}
 use Rattle.std.specs.Str.{IsUtf8, IsAscii}
 use Rattle.std.proofs.lemmas.Str.{IsUtf8-from_ascii}
 use Rattle.std.proofs.lemmas.Bool.{leb-true}

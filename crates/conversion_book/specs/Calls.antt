@@ -5,7 +5,7 @@ use Rattle.unit_relations.specs.Meaning.{MeansWhole}
 use Rattle.chain_steps.specs.Machine.{Machine}
 use Rattle.chain_steps.specs.Chains.{chain, initial}
 use Rattle.chain_steps.specs.Sets.{return_of}
-use Rattle.step_buffers.specs.Ends.{ending, left_by}
+use Rattle.step_buffers.specs.Ends.{ending}
 use Rattle.step_buffers.specs.Limits.{most_each}
 use Rattle.step_buffers.specs.declared.answers.Finish.{Finish}
 use Rattle.runtime_histories.specs.declared.entries.Event.TheVariants.{Closing}

@@ -2,7 +2,7 @@
 use Rattle.std.specs.Prelude.{◌≡◌, ℕ, List, [], ◌∷◌, ◌++◌, length, map, Some}
 use Rattle.std.specs.List.{flat_map}
 use Rattle.code_pairs.specs.Tables.{Tables}
-use Rattle.names_alias.specs.Aliases.{AliasTable, caller_name_of}
+use Rattle.names_alias.specs.Aliases.{caller_name_of}
 use Rattle.modules_conf.specs.Resolution.{alias_table_of}
 use Rattle.modules_conf.specs.declared.conf.Conf.{Conf}
 use Rattle.modules_conf.specs.declared.bindings.Binding.{Binding}
@@ -24,7 +24,7 @@ use Rattle.module_counts.specs.Counting.{HasRoom}
 use Rattle.pair_openings.specs.Answers.{snapshot}
 use Rattle.pair_openings.specs.Entered.{Leaves, HasRefused, KeepsLimit}
 use Rattle.conversion_book.specs.ChainTables.{kept, chain_tables}
-use Rattle.conversion_book.specs.Runtime.{Held, Runtime, log_of, setting_of}
+use Rattle.conversion_book.specs.Runtime.{Runtime, log_of, setting_of}
 
 -- A runtime that has no entry, for a configuration with its bindings.
 pub record IsNew (conf : Conf) (bindings : List Binding) (directory : List ℕ) (pages limit : ℕ) (given : Holdings) (r : Runtime) : Type 0 where

@@ -3,8 +3,8 @@ use Rattle.std.specs.Prelude.{IsSomeAnd}
 use Rattle.chain_steps.specs.Resets.{IsReset}
 use Rattle.chain_steps.specs.Machine.{Machine}
 use Rattle.conversion_book.specs.declared.descriptor.Descriptor.{Descriptor}
-use Rattle.conversion_book.specs.Descriptors.{held_as, IsRunnable}
-use Rattle.conversion_book.specs.Runtime.{Held, held_at}
+use Rattle.conversion_book.specs.Descriptors.{held_as}
+use Rattle.conversion_book.specs.Runtime.{Held}
 use Rattle.conversion_book.proofs.Holding.{found_at, found_none, moved_at, run_at}
 use Rattle.conversion_book.proofs.descriptor.reset_held.Goals as goal
 

@@ -1,9 +1,7 @@
-use Rattle.std.proofs.Common.{◌≡◌, ◌++◌, ◌∷◌, [], ◌<◌, ◌+◌, ℕ, List, Option, Some, length, take, drop, map, get_or, sym, ap, ◌∙◌, subst, refl, arith}
+use Rattle.std.proofs.Common.{◌≡◌, ◌∷◌, ◌<◌, ◌+◌, Option, Some, length, map, sym, ◌∙◌, subst, arith}
 use Rattle.std.specs.Option.{option_to_list}
 use Rattle.std.specs.Vec.Iter.{into_iter_items, into_iter_len}
-use Rattle.std.proofs.lemmas.Grind.{common_steps}
 use Rattle.code_pairs.specs.Tables.{Tables}
-use Rattle.runtime_histories.specs.Deeds.{Loaded}
 use Rattle.conversion_book.specs.Descriptors.{kept_as}
 use Rattle.conversion_book.proofs.Loading.{next_is, put_is, load_step}
 use Rattle.conversion_book.proofs.kept.keep_loads.Goals as goal

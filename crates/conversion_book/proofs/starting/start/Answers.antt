@@ -1,4 +1,4 @@
-use Rattle.std.proofs.Common.{◌≡◌, ◌∙◌, sym, ap, subst, true, rules}
+use Rattle.std.proofs.Common.{◌≡◌, sym, subst, true, rules}
 use Rattle.std.specs.List.{All}
 use Rattle.modules_conf.specs.Charmaps.{names_charmaps}
 use Rattle.modules_conf.specs.declared.kind.Kind.{Kind}

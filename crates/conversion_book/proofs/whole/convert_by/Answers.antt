@@ -1,4 +1,4 @@
-use Rattle.std.proofs.Common.{◌≡◌, ◌∙◌, ◌+◌, ◌*◌, ◌≤◌, List, ℕ, length, sym, ap, subst, arith}
+use Rattle.std.proofs.Common.{◌∙◌, length, ap, subst, arith}
 use Rattle.code_pairs.specs.Tables.{Tables}
 use Rattle.unit_relations.specs.Meaning.{MeansWhole}
 use Rattle.chain_steps.specs.declared.recipe.Recipe.{Recipe}

@@ -5,8 +5,8 @@ use Rattle.chain_steps.specs.Chains.{initial}
 use Rattle.chain_steps.specs.Machine.{Machine}
 use Rattle.conversion_book.specs.declared.descriptor.Descriptor.{Descriptor}
 use Rattle.conversion_book.specs.Calls.{Moves, ConvertsWhole}
-use Rattle.conversion_book.specs.Descriptors.{held_as, IsRunnable}
-use Rattle.conversion_book.specs.Runtime.{Held, held_at, moved}
+use Rattle.conversion_book.specs.Descriptors.{held_as}
+use Rattle.conversion_book.specs.Runtime.{Held}
 use Rattle.conversion_book.proofs.Holding.{found_at, found_none, moved_at, run_at}
 use Rattle.conversion_book.proofs.Wholes.{ok_so}
 use Rattle.conversion_book.proofs.whole.convert_whole_held.Goals as goal

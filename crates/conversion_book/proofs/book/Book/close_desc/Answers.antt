@@ -1,9 +1,9 @@
-use Rattle.std.proofs.Common.{◌≡◌, ◌∙◌, ◌++◌, ◌∷◌, [], List, length, map, sym, ap, subst, refl, string_bytes}
+use Rattle.std.proofs.Common.{◌≡◌, ◌∙◌, List, length, map, sym, ap, subst, refl, string_bytes}
 use Rattle.module_graph.specs.Graph.{Shape}
 use Rattle.outside.specs.Moments.{Holdings}
 use Rattle.runtime_histories.specs.declared.entries.Entry.{Entry}
 use Rattle.runtime_histories.specs.declared.entries.Event.TheVariants.{Closing}
-use Rattle.runtime_histories.specs.Deeds.{Deeds, Loaded, IsLive}
+use Rattle.runtime_histories.specs.Deeds.{Loaded, IsLive}
 use Rattle.runtime_histories.specs.Entries.{deeds}
 use Rattle.module_counts.specs.Counting.{Booked}
 use Rattle.conversion_book.specs.Calls.{Closes}

@@ -1,13 +1,12 @@
 use Rattle.std.proofs.Common.{◌≡◌, ◌∙◌, ◌++◌, List, length, map, take, drop, ap, subst, string_bytes, arith}
-use Rattle.std.specs.Prelude.{IsSomeAnd}
 
 use Rattle.conversion_book.specs.Calls.{Moves}
 use Rattle.conversion_book.specs.declared.descriptor.Descriptor.{Descriptor}
 use Rattle.conversion_book.specs.Descriptors.{held_as, kept_as}
-use Rattle.conversion_book.specs.Runtime.{Held, Runtime, held_at, moved}
+use Rattle.conversion_book.specs.Runtime.{Runtime}
 use Rattle.conversion_book.proofs.Booking.{book_moves}
 use Rattle.conversion_book.proofs.Holding.{whole_slice}
-use Rattle.conversion_book.proofs.Wholes.{known_so, reset_recipe}
+use Rattle.conversion_book.proofs.Wholes.{known_so}
 use Rattle.conversion_book.proofs.book.Book.convert_whole.Goals as goal
 
 pub invariant_of-self : goal.invariant_of-self

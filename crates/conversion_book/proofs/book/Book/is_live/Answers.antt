@@ -1,4 +1,4 @@
-use Rattle.std.proofs.Common.{◌≡◌, ap, subst, sym}
+use Rattle.std.proofs.Common.{subst}
 use Rattle.std.specs.Prelude.{IsSome}
 use Rattle.runtime_histories.specs.Entries.{deeds}
 use Rattle.conversion_book.specs.Runtime.{Runtime, held_at}

@@ -1,4 +1,4 @@
-use Rattle.std.proofs.Common.{◌≡◌, ◌∙◌, ℕ, List, map, sym, ap, subst, refl, string_bytes, rules}
+use Rattle.std.proofs.Common.{◌≡◌, ℕ, List, map, sym, subst, string_bytes, rules}
 use Rattle.outside.specs.Moments.{Holdings}
 use Rattle.runtime_histories.specs.declared.refusals.Asked.{Asked}
 use Rattle.runtime_histories.specs.declared.refusals.Refusal.TheVariants.{Memory}
@@ -9,7 +9,7 @@ use Rattle.pair_openings.specs.Entered.{HasBegun, HasRefused}
 use Rattle.conversion_book.specs.declared.descriptor.Descriptor.{Descriptor}
 use Rattle.conversion_book.specs.Descriptors.{held_as, kept_as}
 use Rattle.conversion_book.specs.Openings.{Opens, Refuses}
-use Rattle.conversion_book.specs.Runtime.{Held, Runtime}
+use Rattle.conversion_book.specs.Runtime.{Runtime}
 use Rattle.conversion_book.proofs.Opening.{begun_next, begun_led, entered_book, entered_opens, lost_refuses, refused_book}
 use Rattle.conversion_book.proofs.book.Book.open_pair.Goals as goal
 
