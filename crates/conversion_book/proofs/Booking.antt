@@ -196,7 +196,7 @@ module _ (graph : Shape) (keeps : List Loaded) (r : Runtime) (book : IsBook grap
           → IsRunnable (record { number = number; tables = chain_tables (keeps ++ loads) o.modules; machine = record { recipe = recipe; states = initial } })
       runs_so recipe e number =
           let both = chain_runs s.source r.books.graph o.chain.ordinals (chain_tables (keeps ++ loads) o.modules) recipe
-              (subst (λ (z : List ℕ). AreTablesOf s.source (flat_map (charmaps_at r.books.graph) z) (chain_tables (keeps ++ loads) o.modules)) steps_are tables_are) e in
+          (subst (λ (z : List ℕ). AreTablesOf s.source (flat_map (charmaps_at r.books.graph) z) (chain_tables (keeps ++ loads) o.modules)) steps_are tables_are) e in
           record { can_run = both.0; well_formed = both.1 }
 
       loads_known : AllKnown n loads

@@ -169,6 +169,7 @@ pub chain_runs : (s : Source) (g : Shape) (os : List ℕ) (ts : Tables) (r : Rec
     → CanRun ts r × AreWellFormed ts
 chain_runs s g os ts r tables e =
     let n = length_tables s (flat_map (charmaps_at g) (modules_of g.edges os)) ts tables in
-    let m = chain_words g os in
-    (recipe_in ts (stages g 0 (edges_at g os)) r (stages_in g ts 0 (edges_at g os) (omega (arith, n, m))) e,
-    well_formed s (flat_map (charmaps_at g) (modules_of g.edges os)) ts tables)
+    let m = chain_words g os in (
+      recipe_in ts (stages g 0 (edges_at g os)) r (stages_in g ts 0 (edges_at g os) (omega (arith, n, m))) e,
+      well_formed s (flat_map (charmaps_at g) (modules_of g.edges os)) ts tables,
+    )

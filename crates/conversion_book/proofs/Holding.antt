@@ -81,10 +81,13 @@ run_moved n m [] same all = tt
 run_moved n m (x ∷ xs) same all = go (eqb x.number n) refl (λ s. run_moved n m xs s all.1)
   where
     go : (b : Bool) → eqb x.number n ≡ b → (((h : Held) → held_at n xs ≡ Some h → m.recipe ≡ h.machine.recipe) → AllRun (moved n m xs)) → AllRun (cond b (record x { machine = m } ∷ xs) (x ∷ moved n m xs))
-    go true e rec = (record {
+    go true e rec = (
+      record {
         can_run = subst (λ z. CanRun x.tables z) (sym (same x (ap (λ (b : Bool). cond b (Some x) (held_at n xs)) e))) all.0.can_run;
         well_formed = all.0.well_formed;
-      }, all.1)
+      },
+      all.1,
+    )
     go false e rec = (all.0, rec (λ h z. same h (ap (λ (b : Bool). cond b (Some x) (held_at n xs)) e ∙ z)))
 
 -- A machine that moves changes no number.
@@ -195,7 +198,7 @@ live_held log c n hs e l =
     let unclosed : closed d.number log ≡ false = ap (λ (z : ℕ). closed z log) l.number_is ∙ l.unclosed in
     let there : IsIn d (live log) = in_filtered (λ x. not (closed x.number log)) d (openings 0 log) l.there (ap not unclosed) in
     let any : list_any (λ k. eqb k n) (map (λ (h : Held). h.number) hs) ≡ true =
-        ap (list_any (λ k. eqb k n)) e ∙ (ap (λ (z : ℕ). list_any (λ k. eqb k z) (live_numbers log)) (sym l.number_is) ∙ in_numbers d (live log) there) in
+    ap (list_any (λ k. eqb k n)) e ∙ (ap (λ (z : ℕ). list_any (λ k. eqb k z) (live_numbers log)) (sym l.number_is) ∙ in_numbers d (live log) there) in
     any_held n hs any
 
 -- A slice of a whole list that was changed is the list.

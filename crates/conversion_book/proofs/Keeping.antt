@@ -150,8 +150,8 @@ among_kept : (n m : ℕ) (log : Deeds) (xs : List Loaded) → AllKnown n xs → 
 among_kept n m log [] known r e = e
 among_kept n m log (x ∷ xs) known r e = ⊎_elim
     (λ (z : eqb x.«module» m ≡ true). let f : resident (marks log) x.«module» ≡ true = ap (resident (marks log)) (eqb-true x.«module» m z) ∙ r in
-        ap (λ (b : Bool). among m (loaded_modules (cond b (x ∷ filter (λ l. resident (marks log) l.«module») xs) (filter (λ l. resident (marks log) l.«module») xs)))) f
-        ∙ true_or (eqb x.«module» m) (among m (loaded_modules (filter (λ l. resident (marks log) l.«module») xs))) z)
+    ap (λ (b : Bool). among m (loaded_modules (cond b (x ∷ filter (λ l. resident (marks log) l.«module») xs) (filter (λ l. resident (marks log) l.«module») xs)))) f
+    ∙ true_or (eqb x.«module» m) (among m (loaded_modules (filter (λ l. resident (marks log) l.«module») xs))) z)
     (λ z. go (resident (marks log) x.«module») (among_kept n m log xs known.1 r z))
     (or_true (eqb x.«module» m) (among m (loaded_modules xs)) e)
   where

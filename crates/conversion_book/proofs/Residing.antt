@@ -69,9 +69,9 @@ own_cases false = inr refl
 pub resident_more : (m : ℕ) (ms : List Mark) (y : Mark) → resident (ms ++ y ∷ []) m ≡ true → (is_own m y ≡ true) ⊎ (resident ms m ≡ true)
 resident_more m ms y e = ⊎_elim (λ z. inl z)
     (λ (z : is_own m y ≡ false). inr (⊎_elim
-        (λ h. true_or (is_held m ms) (is_fresh (after_last m ms)) (sym (held_other m ms y z) ∙ h))
-        (λ f. or_right (is_held m ms) (is_fresh (after_last m ms)) (fresh_pushed y (after_last m ms) (sym (ap is_fresh (after_other m ms y z)) ∙ f)))
-        (or_true (is_held m (ms ++ y ∷ [])) (is_fresh (after_last m (ms ++ y ∷ []))) e)))
+    (λ h. true_or (is_held m ms) (is_fresh (after_last m ms)) (sym (held_other m ms y z) ∙ h))
+    (λ f. or_right (is_held m ms) (is_fresh (after_last m ms)) (fresh_pushed y (after_last m ms) (sym (ap is_fresh (after_other m ms y z)) ∙ f)))
+    (or_true (is_held m (ms ++ y ∷ [])) (is_fresh (after_last m (ms ++ y ∷ []))) e)))
     (own_cases (is_own m y))
 
 module _ (mark : ℕ → Mark) (own : (k m : ℕ) → is_own m (mark k) ≡ eqb k m) where
@@ -111,7 +111,7 @@ resident_closes b h c n live m e =
     let unclosed : closed d.number b ≡ false = ap (λ (z : ℕ). closed z b) live.number_is ∙ live.unclosed in
     ⊎_elim
     (λ z. let k = held h.route b h.fair d m live.there unclosed in let t = among_times m d.modules z in
-        true_or (is_held m (marks b)) (is_fresh (after_last m (marks b))) (lt-ltb (count (is_release m) (marks b)) (count (is_use m) (marks b)) (omega (arith, k, t))))
+    true_or (is_held m (marks b)) (is_fresh (after_last m (marks b))) (lt-ltb (count (is_release m) (marks b)) (count (is_use m) (marks b)) (omega (arith, k, t))))
     (λ r. r)
     (resident_if releases (λ k m. refl) (pair_live (b ++ act c (closes d.number) ∷ []) d.pair) m d.modules (marks b)
-        (ap (λ (z : List Mark). resident z m) (sym (marks_closes b h c d live.there)) ∙ there))
+    (ap (λ (z : List Mark). resident z m) (sym (marks_closes b h c d live.there)) ∙ there))

@@ -30,10 +30,10 @@ between_low low high b lt e = let p = and_true (nat_le low b) (nat_le b high) e 
 byte_low : (b : ℕ) → is_charmap_byte b ≡ true → b < 128
 byte_low b e = ⊎_elim
     (λ z. ⊎_elim
-        (λ y. ⊎_elim (λ x. between_low 65 90 b (omega arith) x) (λ x. between_low 97 122 b (omega arith) x)
-            (or_true (nat_le 65 b && nat_le b 90) (nat_le 97 b && nat_le b 122) y))
-        (λ y. between_low 48 57 b (omega arith) y)
-        (or_true ((nat_le 65 b && nat_le b 90) || (nat_le 97 b && nat_le b 122)) (nat_le 48 b && nat_le b 57) z))
+    (λ y. ⊎_elim (λ x. between_low 65 90 b (omega arith) x) (λ x. between_low 97 122 b (omega arith) x)
+    (or_true (nat_le 65 b && nat_le b 90) (nat_le 97 b && nat_le b 122) y))
+    (λ y. between_low 48 57 b (omega arith) y)
+    (or_true ((nat_le 65 b && nat_le b 90) || (nat_le 97 b && nat_le b 122)) (nat_le 48 b && nat_le b 57) z))
     (λ z. any_low b (codes "_-.,:+()") (omega arith, (omega arith, (omega arith, (omega arith, (omega arith, (omega arith, (omega arith, (omega arith, tt)))))))) z)
     (or_true ((nat_le 65 b && nat_le b 90) || (nat_le 97 b && nat_le b 122) || (nat_le 48 b && nat_le b 57)) (list_any (λ sign. eqb b sign) (codes "_-.,:+()")) e)
 

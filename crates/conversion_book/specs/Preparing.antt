@@ -50,7 +50,7 @@ pub record IsEntered (a b : Booked) (keeps later : List Loaded) (old new : List 
   pub recipe_is : recipe_for a.graph o.opening.chain.ordinals ≡ Some recipe
   pub later_is : later ≡ still_kept (length a.graph.kinds) (deeds b.journal) (keeps ++ map loaded_of o.opening.loads.items)
   pub held_is : new ≡ old ++ record {
-      number = number;
-      tables = chain_tables (keeps ++ map loaded_of o.opening.loads.items) o.opening.modules;
-      machine = record { recipe = recipe; states = initial };
-    } ∷ []
+    number = number;
+    tables = chain_tables (keeps ++ map loaded_of o.opening.loads.items) o.opening.modules;
+    machine = record { recipe = recipe; states = initial };
+  } ∷ []

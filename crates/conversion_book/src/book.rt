@@ -215,13 +215,7 @@ impl<L: Library> Book<L> {
             (ConvertsWhole input.now r.0.output.items r.1)) }
         ensures err { OnErr result (Calls self.old self.new number (λ ts m n. n.recipe ≡ m.recipe)) }
     {
-        convert_whole_held(
-            self.alloc,
-            self.held.as_mut_slice(),
-            number,
-            buffers,
-            input,
-        )
+        convert_whole_held(self.alloc, self.held.as_mut_slice(), number, buffers, input)
     }
 
     /// Whether the number is that of a live descriptor of the caller.

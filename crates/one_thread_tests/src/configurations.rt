@@ -9,9 +9,7 @@ module SC// INTERNAL TC 1\nmodule INTERNAL SC// TC 1\n";
 pub const TABLES: &[u8] = b"TA table CA\nTB table CB\nTC table CC\n";
 
 /// A charmap of one character. Its table has four pages.
-pub const ONE: &[u8] =
-    b"<escape_char> /\n<comment_char> %\nCHARMAP\n<U0041> /x41\nEND CHARMAP\n";
+pub const ONE: &[u8] = b"<escape_char> /\n<comment_char> %\nCHARMAP\n<U0041> /x41\nEND CHARMAP\n";
 
 /// A charmap whose fourth line has no symbol.
-pub const FAULTY: &[u8] =
-    b"<escape_char> /\n<comment_char> %\nCHARMAP\nA /x41\nEND CHARMAP\n";
+pub const FAULTY: &[u8] = b"<escape_char> /\n<comment_char> %\nCHARMAP\nA /x41\nEND CHARMAP\n";

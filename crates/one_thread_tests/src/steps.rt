@@ -45,12 +45,19 @@ fn refusal_text(alloc: Global, why: &Refusal) -> Result<String, AllocError> {
             let word = str::from_utf8(charmap.as_bytes()).unwrap_or("?");
             match fault {
                 TextFault::Map(fault) => {
-                    format!(in alloc; "bad charmap {module} {word}: {:?} {}", fault.kind, fault.line)
+                    format!(in alloc;
+                        "bad charmap {module} {word}: {:?} {}",
+                        fault.kind, fault.line
+                    )
                 }
-                TextFault::Overlap { .. } => format!(in alloc; "bad charmap {module} {word}: overlap"),
+                TextFault::Overlap { .. } => format!(in alloc;
+                    "bad charmap {module} {word}: overlap"
+                ),
             }
         }
-        Refusal::StoreFull { need, free } => format!(in alloc; "store full: need {need}, free {free}"),
+        Refusal::StoreFull { need, free } => format!(in alloc;
+            "store full: need {need}, free {free}"
+        ),
         Refusal::JournalFull { length } => format!(in alloc; "journal full: {length}"),
         Refusal::Memory => String::from_str(alloc, "memory"),
     }

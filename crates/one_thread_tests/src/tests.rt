@@ -18,8 +18,11 @@ use step_buffers::{Buffers, Finish};
 use work_steps::Steps;
 
 const SA: &[u8] = b"SA";
+
 const SB: &[u8] = b"sb";
+
 const SC: &[u8] = b"SC//";
+
 const UTF8: &[u8] = b"UTF-8";
 
 /// A library of the charmaps of three sets; that of the first is another.
@@ -55,12 +58,7 @@ struct Row {
 }
 
 /// A row over three sets by tables.
-fn three(
-    pages: u32,
-    steps: &'static [Step],
-    answers: &'static str,
-    reads: &'static str,
-) -> Row {
+fn three(pages: u32, steps: &'static [Step], answers: &'static str, reads: &'static str) -> Row {
     Row {
         modules: THREE,
         bindings: TABLES,
@@ -110,8 +108,15 @@ fn reads_a_module_again_once_it_is_given_up(rt: HostRuntime) -> Result<(), Fail>
         three(
             12,
             &[
-                Open(SA, UTF8), Close(0), Open(SB, UTF8), Close(2), Open(SC, UTF8), Close(4),
-                Open(SB, UTF8), Close(6), Open(SA, UTF8),
+                Open(SA, UTF8),
+                Close(0),
+                Open(SB, UTF8),
+                Close(2),
+                Open(SC, UTF8),
+                Close(4),
+                Open(SB, UTF8),
+                Close(6),
+                Open(SA, UTF8),
             ],
             "0 free 8\nclosed free 8\n2 free 4\nclosed free 4\n4 free 0\nclosed free 0\n\
 6 free 0\nclosed free 4\n8 free 0\n",
@@ -120,7 +125,12 @@ fn reads_a_module_again_once_it_is_given_up(rt: HostRuntime) -> Result<(), Fail>
         three(
             12,
             &[
-                Open(SA, UTF8), Close(0), Open(SB, UTF8), Close(2), Open(SC, UTF8), Close(4),
+                Open(SA, UTF8),
+                Close(0),
+                Open(SB, UTF8),
+                Close(2),
+                Open(SC, UTF8),
+                Close(4),
                 Open(SA, UTF8),
             ],
             "0 free 8\nclosed free 8\n2 free 4\nclosed free 4\n4 free 0\nclosed free 0\n6 free 0\n",
@@ -130,8 +140,16 @@ fn reads_a_module_again_once_it_is_given_up(rt: HostRuntime) -> Result<(), Fail>
         three(
             12,
             &[
-                Open(SA, UTF8), Open(SA, UTF8), Close(0), Open(SB, UTF8), Close(3), Open(SC, UTF8),
-                Close(5), Open(SB, UTF8), Close(7), Open(SA, UTF8),
+                Open(SA, UTF8),
+                Open(SA, UTF8),
+                Close(0),
+                Open(SB, UTF8),
+                Close(3),
+                Open(SC, UTF8),
+                Close(5),
+                Open(SB, UTF8),
+                Close(7),
+                Open(SA, UTF8),
             ],
             "0 free 8\n1 free 8\nclosed free 8\n3 free 4\nclosed free 4\n5 free 0\nclosed free 0\n\
 7 free 0\nclosed free 0\n9 free 0\n",

@@ -1,5 +1,4 @@
 use Rattle.std.proofs.Common.{◌≡◌, ◌∙◌, ◌++◌, List, length, map, take, drop, ap, subst, string_bytes, arith}
-
 use Rattle.conversion_book.specs.Calls.{Moves}
 use Rattle.conversion_book.specs.declared.descriptor.Descriptor.{Descriptor}
 use Rattle.conversion_book.specs.Descriptors.{held_as, kept_as}
