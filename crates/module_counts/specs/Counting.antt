@@ -71,11 +71,15 @@ pub record Follows (c : Booked) (e : Entry) (ps : List (List ℕ)) : Type 0 wher
   pub next : Next setting c.journal e
   pub placed : ps ≡ places_of c.pages (deeds c.journal) (success_of e.event)
 
+-- The limit leaves room for an entry and all closings, its own too.
+abbrev pub HasRoom : Booked → Type 0
+HasRoom c = length c.journal + length (live (deeds c.journal)) + 2 ≤ c.limit
+
 -- Room was refused: the journal and all closings would go past the limit, or memory was wanting.
 abbrev pub RefusesRoom : Booked → Refusal → Type 0
 RefusesRoom c (JournalFull count) = (count ≡ length c.journal)
     × (c.limit < length c.journal + length (live (deeds c.journal)) + 2)
-RefusesRoom c Memory = length c.journal + length (live (deeds c.journal)) + 2 ≤ c.limit
+RefusesRoom c Memory = HasRoom c
 RefusesRoom c _ = ⊥
 
 -- Pages were refused: fewer are free, or memory was wanting.

@@ -53,7 +53,7 @@ impl Counts {
     ghost use Rattle.runtime_histories.specs.Settings.{Setting, modules_of};
     ghost use Rattle.runtime_histories.specs.Legal.{Legal, Next, absent_among};
     ghost use Rattle.module_counts.specs.Stocks.{lists};
-    ghost use Rattle.module_counts.specs.Counting.{IsKnown, IsSettingOf, Follows, Booked, RefusesRoom, RefusesPages};
+    ghost use Rattle.module_counts.specs.Counting.{IsKnown, IsSettingOf, Follows, Booked, HasRoom, RefusesRoom, RefusesPages};
 
     /// No entry. Each later call that takes a graph takes this one.
     pub fn new(
@@ -146,6 +146,7 @@ impl Counts {
     /// Makes room for one entry and one later closing.
     pub fn reserve(&mut self) -> Result<(), Refusal>
         ensures ok { OnOk result (length (live (deeds self.old.journal)) + 2 ≤ self.new.spare) }
+        ensures within { OnOk result (HasRoom self.old) }
         ensures err { IfErr result (RefusesRoom self.old) }
         ensures journal { self.new.journal ≡ self.old.journal }
         ensures same { (self.new.graph ≡ self.old.graph) × (self.new.pages ≡ self.old.pages)

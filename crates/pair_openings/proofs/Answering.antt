@@ -1,5 +1,5 @@
 -- What an opening by two names as asked is answered, by what one by two good names is.
-use Rattle.std.proofs.Common.{◌≡◌, ℕ, List, Result, Ok, Err, IfOk, IfErr, refl, []}
+use Rattle.std.proofs.Common.{◌≡◌, ◌⊎◌, ℕ, List, Result, Ok, Err, IfOk, IfErr, refl, [], inl, inr, sym, subst, append-nil}
 use Rattle.names_alias.specs.CallerNames.{IsGood, IsFault}
 use Rattle.names_alias.specs.declared.fault.NameFault.{NameFault}
 use Rattle.outside.specs.Moments.{Holdings}
@@ -9,9 +9,12 @@ use Rattle.runtime_histories.specs.declared.refusals.Asked.TheVariants.{Good, Ba
 use Rattle.runtime_histories.specs.declared.refusals.End.TheVariants.{From, To}
 use Rattle.runtime_histories.specs.declared.refusals.Refusal.{Refusal}
 use Rattle.runtime_histories.specs.declared.refusals.Refusal.TheVariants.{BadName, NoConversion, LibraryFault, NoCharmap, BadCharmap, StoreFull, JournalFull, Memory}
-use Rattle.pair_openings.specs.Answers.{IsProper, Replies, Answers, Refuses}
+use Rattle.pair_openings.specs.Answers.{IsProper, Replies, Answers, Refuses, Loses, reply_of}
 use Rattle.pair_openings.specs.Loading.{Ground}
-use Rattle.pair_openings.specs.Plans.{IsPlanned, IsDenied, Denies}
+use Rattle.charmap_library.specs.Fetching.{source_of}
+use Rattle.runtime_histories.specs.Charmaps.{wanted}
+use Rattle.runtime_histories.specs.Settings.{Setting}
+use Rattle.pair_openings.specs.Plans.{IsPlanned, IsDenied, Denies, Asked}
 use Rattle.pair_openings.specs.declared.planning.Opening.{Opening}
 use Rattle.pair_openings.proofs.Deciding.{asked_none}
 
@@ -43,7 +46,7 @@ module _ (g : Ground) (old new : Holdings) (from to : List ℕ) (good : IsGood f
   refuses (BadCharmap m w f) p = (denied (BadCharmap m w f) p, p.blamed)
   refuses (StoreFull n l) p = (denied (StoreFull n l) p, p.blamed)
   refuses (JournalFull n) p = (denied (JournalFull n) p, p.blamed)
-  refuses Memory p = (p.more, p.asked)
+  refuses Memory p = p
 
   pub answers_result : (r : Result Opening Refusal) → IfOk r (IsPlanned g old new from to) → IfOk r (Answers g old new (Good from) (Good to))
   answers_result (Ok o) h = answers o h
@@ -52,3 +55,30 @@ module _ (g : Ground) (old new : Holdings) (from to : List ℕ) (good : IsGood f
   pub refuses_result : (r : Result Opening Refusal) → IfErr r (Denies g old new from to) → IfErr r (Refuses g old new (Good from) (Good to))
   refuses_result (Ok o) h = tt
   refuses_result (Err why) h = refuses why h
+
+-- Memory was wanting before anything was asked for.
+pub lost_early : (g : Ground) (h : Holdings) (from to : names.Asked) → Loses g h h from to
+lost_early g h (Good from) (Good to) = record { more = []; asked = asked_none h; front = (λ s settled. inl refl) }
+lost_early g h (Good from) (Bad f) = asked_none h
+lost_early g h (Bad f) to = asked_none h
+
+-- Some setting of a ground.
+abbrev settled_in : Ground → Holdings → Setting
+settled_in g old = record {
+  first = record { graph = g.graph; aliases = record { fixed = []; pairs = [] } };
+  source = source_of g.directory old;
+  pages = g.pages;
+}
+
+-- Memory was wanting when the opening was decided.
+pub lost_late : (g : Ground) (old new : Holdings) (from to : names.Asked) (o : Opening) → Answers g old new from to o → Loses g old new from to
+lost_late g old new (Good from) (Good to) o a = record {
+  more = a.reply.more;
+  asked = a.reply.asked;
+  front = λ s settled. let all = (a.reply.legal s settled).1 in
+      inr (all.route, wanted g.graph all.route.absent, [], sym (append-nil (wanted g.graph all.route.absent)), all.all);
+}
+lost_late g old new (Good from) (Bad f) o a =
+    subst (Asked old new) (a.reply.legal (settled_in g old) (record { pages_is = refl; source_is = refl })).1 a.reply.asked
+lost_late g old new (Bad f) to o a =
+    subst (Asked old new) (a.reply.legal (settled_in g old) (record { pages_is = refl; source_is = refl })).1 a.reply.asked

@@ -15,11 +15,12 @@ use Rattle.runtime_histories.specs.Deeds.{Deeds}
 use Rattle.runtime_histories.specs.Legal.{IsAnswered}
 use Rattle.module_graph.specs.Graph.{Shape}
 use Rattle.runtime_histories.specs.Settings.{Setting}
-use Rattle.module_counts.specs.Counting.{Booked, IsSettingOf}
+use Rattle.module_counts.specs.Counting.{Booked, HasRoom, RefusesRoom, IsSettingOf}
 use Rattle.charmap_library.specs.Fetching.{source_of}
-use Rattle.pair_openings.specs.Answers.{Replies, Refuses}
-use Rattle.pair_openings.specs.Entered.{Enters, IsNextIn, ground_of, Leaves, Stays, HasRefused, entry_of, is_want}
+use Rattle.pair_openings.specs.Answers.{Replies, Refuses, Loses}
+use Rattle.pair_openings.specs.Entered.{Enters, IsNextIn, ground_of, Leaves, Stays, HasRefused, KeepsLimit, entry_of, is_want}
 use Rattle.pair_openings.specs.Loading.{Ground}
+use Rattle.pair_openings.proofs.Answering.{lost_early}
 
 -- The setting of these books, under these aliases and with this library.
 abbrev pub setting_for : AliasTable → List ℕ → Booked → Holdings → Setting
@@ -38,7 +39,7 @@ next_in aliases d c old new from to reply r = record {
 }
 
 module _ (a m b : Booked) (s : Stays a m) where
-  ground_same : (d : List ℕ) → ground_of d m ≡ ground_of d a
+  pub ground_same : (d : List ℕ) → ground_of d m ≡ ground_of d a
   ground_same d = λ i. record { directory = d; graph = s.graph i; pages = s.pages i; log = deeds (s.journal i) }
 
   -- What was entered after room was made.
@@ -102,4 +103,37 @@ want_left a m s d old new caller from to (NoCharmap n w) known h = absurd (false
 want_left a m s d old new caller from to (BadCharmap n w f) known h = absurd (false≢true known)
 want_left a m s d old new caller from to (StoreFull n l) known h = absurd (false≢true known)
 want_left a m s d old new caller from to (JournalFull n) known h = absurd (false≢true known)
-want_left a m s d old new caller from to Memory known h = (s, h)
+want_left a m s d old new caller from to Memory known h = (s, subst (λ (z : Ground). Loses z old new from to) (ground_same a m m s d) h)
+
+-- Room was refused before anything was asked for.
+pub room_refused : (a m : Booked) → Stays a m → (d : List ℕ) (h : Holdings) (caller : ℕ) (from to : Asked) (why : Refusal) → RefusesRoom a why → HasRefused d a m h h caller from to why
+room_refused a m s d h caller from to (BadName which f) r = absurd r
+room_refused a m s d h caller from to NoConversion r = absurd r
+room_refused a m s d h caller from to (LibraryFault n w) r = absurd r
+room_refused a m s d h caller from to (NoCharmap n w) r = absurd r
+room_refused a m s d h caller from to (BadCharmap n w f) r = absurd r
+room_refused a m s d h caller from to (StoreFull n l) r = absurd r
+room_refused a m s d h caller from to (JournalFull n) r = (r, s, refl)
+room_refused a m s d h caller from to Memory r = (s, lost_early (ground_of d a) h from to)
+
+-- What room was refused for keeps the limit, or says that it doesn't.
+pub room_kept : (a : Booked) (why : Refusal) → RefusesRoom a why → KeepsLimit a why
+room_kept a (BadName which f) r = absurd r
+room_kept a NoConversion r = absurd r
+room_kept a (LibraryFault n w) r = absurd r
+room_kept a (NoCharmap n w) r = absurd r
+room_kept a (BadCharmap n w f) r = absurd r
+room_kept a (StoreFull n l) r = absurd r
+room_kept a (JournalFull n) r = tt
+room_kept a Memory r = r
+
+-- Where there was room, every refusal keeps the limit.
+pub kept_limit : (a : Booked) (why : Refusal) → HasRoom a → KeepsLimit a why
+kept_limit a (BadName which f) r = r
+kept_limit a NoConversion r = r
+kept_limit a (LibraryFault n w) r = r
+kept_limit a (NoCharmap n w) r = r
+kept_limit a (BadCharmap n w f) r = r
+kept_limit a (StoreFull n l) r = r
+kept_limit a (JournalFull n) r = tt
+kept_limit a Memory r = r

@@ -1,5 +1,5 @@
 -- What an opening by two names as asked is answered.
-use Rattle.std.specs.Prelude.{◌≡◌, ℕ, List, map}
+use Rattle.std.specs.Prelude.{◌≡◌, ℕ, List, [], map}
 use Rattle.std.specs.declared.snapshot.Snapshot.{Snapshot}
 use Rattle.names_alias.specs.CallerNames.{IsGood, IsFault}
 use Rattle.outside.specs.Moments.{Holdings}
@@ -16,7 +16,7 @@ use Rattle.runtime_histories.specs.Places.{places}
 use Rattle.runtime_histories.specs.Settings.{Setting}
 use Rattle.module_counts.specs.Stocks.{lists, places_for}
 use Rattle.pair_openings.specs.Loading.{Ground}
-use Rattle.pair_openings.specs.Plans.{IsSettled, Asked, IsBlamed}
+use Rattle.pair_openings.specs.Plans.{IsSettled, Asked, IsBlamed, IsLost}
 use Rattle.pair_openings.specs.declared.planning.Opening.{Opening}
 
 -- A name as asked is good, or has a fault that fits.
@@ -46,7 +46,14 @@ pub record Answers (g : Ground) (old new : Holdings) (from to : names.Asked) (o 
   pub placed : lists o.places.items ≡ places_for g.pages (map loaded_of o.loads.items) (places g.pages g.log)
   pub tables : map (λ l. l.tables) (map loaded_of o.loads.items) ≡ o.tables.items
 
+-- Memory was wanting: the library was asked for a front of what such an opening asks for, which is nothing where
+-- a name is bad.
+abbrev pub Loses : Ground → Holdings → Holdings → names.Asked → names.Asked → Type 0
+Loses g old new (Good from) (Good to) = IsLost g old new from to
+Loses g old new (Good from) (Bad fault) = Asked old new []
+Loses g old new (Bad fault) to = Asked old new []
+
 -- Why the opening is refused: for the cause that the histories demand, or for want of memory.
 abbrev pub Refuses : Ground → Holdings → Holdings → names.Asked → names.Asked → Refusal → Type 0
-Refuses g old new from to refusals.Memory = (more : List (List ℕ)) × Asked old new more
+Refuses g old new from to refusals.Memory = Loses g old new from to
 Refuses g old new from to why = Replies g old new from to (Refused why) × IsBlamed why old new

@@ -1,5 +1,5 @@
 -- What an opening leaves in the books.
-use Rattle.std.specs.Prelude.{◌≡◌, ℕ, Bool, true, false, List, [], ◌∷◌, ◌++◌, length, map}
+use Rattle.std.specs.Prelude.{◌≡◌, ◌+◌, ◌≤◌, ℕ, Bool, true, false, List, [], ◌∷◌, ◌++◌, length}
 use Rattle.outside.specs.Moments.{Holdings}
 use Rattle.runtime_histories.specs.declared.entries.Entry.{Entry}
 use Rattle.runtime_histories.specs.declared.entries.Event.TheVariants as events
@@ -8,15 +8,15 @@ use Rattle.runtime_histories.specs.declared.entries.Reply.TheVariants.{Refused}
 use Rattle.runtime_histories.specs.declared.refusals.Asked.{Asked}
 use Rattle.runtime_histories.specs.declared.refusals.Refusal.{Refusal}
 use Rattle.runtime_histories.specs.declared.refusals.Refusal.TheVariants as refusals
-use Rattle.runtime_histories.specs.Entries.{deeds, loaded_of}
+use Rattle.runtime_histories.specs.Deeds.{live}
+use Rattle.runtime_histories.specs.Entries.{deeds}
 use Rattle.runtime_histories.specs.Legal.{IsAnswered}
 use Rattle.runtime_histories.specs.Settings.{Setting}
-use Rattle.module_counts.specs.Counting.{Booked, IsSettingOf, RefusesRoom}
-use Rattle.pair_openings.specs.Answers.{Replies, reply_of}
+use Rattle.module_counts.specs.Counting.{Booked, HasRoom, IsSettingOf, RefusesRoom}
+use Rattle.pair_openings.specs.Answers.{Answers, Replies, Loses}
 use Rattle.pair_openings.specs.Loading.{Ground}
 use Rattle.pair_openings.specs.Plans as plans
-use Rattle.pair_openings.specs.declared.opened.Opened.{Opened}
-use Rattle.pair_openings.specs.declared.planning.Opening.{Opening}
+use Rattle.pair_openings.specs.declared.begun.Begun.{Begun}
 
 -- The entry of an opening.
 abbrev pub entry_of : ℕ → Asked → Asked → Reply → Entry
@@ -51,12 +51,13 @@ pub record Stays (a b : Booked) : Type 0 where
   pub pages : b.pages ≡ a.pages
   pub limit : b.limit ≡ a.limit
 
--- A pair was opened: its number is the position of its entry, and these tables were loaded.
-pub record HasOpened (directory : List ℕ) (a b : Booked) (old new : Holdings) (caller : ℕ) (from to : Asked) (o : Opened) : Type 0 where
-  pub opening : Opening
-  pub leaves : Leaves directory a b old new caller from to (reply_of opening)
-  pub number : o.number ≡ length a.journal
-  pub tables : map (λ l. l.tables) (map loaded_of opening.loads.items) ≡ o.tables.items
+-- An opening was begun: there is room for it, it can be made, and nothing was entered.
+pub record HasBegun (directory : List ℕ) (a b : Booked) (old new : Holdings) (from to : Asked) (o : Begun) : Type 0 where
+  pub stays : Stays a b
+  pub limit : HasRoom a
+  pub room : length (live (deeds b.journal)) + 2 ≤ b.spare
+  pub names : (o.from ≡ from) × (o.to ≡ to)
+  pub answers : Answers (ground_of directory a) old new from to o.opening
 
 -- Memory was wanting.
 abbrev pub is_want : Refusal → Bool
@@ -69,6 +70,11 @@ abbrev pub HasRefused : List ℕ → Booked → Booked → Holdings → Holdings
 HasRefused directory a b old new caller from to (refusals.JournalFull count) =
     RefusesRoom a (refusals.JournalFull count) × Stays a b × (new ≡ old)
 HasRefused directory a b old new caller from to refusals.Memory =
-    Stays a b × ((more : List (List ℕ)) × plans.Asked old new more)
+    Stays a b × Loses (ground_of directory a) old new from to
 HasRefused directory a b old new caller from to why =
     Leaves directory a b old new caller from to (Refused why) × plans.IsBlamed why old new
+
+-- The limit leaves room for an entry and all closings, unless the refusal says that it doesn't.
+abbrev pub KeepsLimit : Booked → Refusal → Type 0
+KeepsLimit a (refusals.JournalFull count) = Unit {0}
+KeepsLimit a _ = HasRoom a

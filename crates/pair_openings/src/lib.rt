@@ -3,19 +3,19 @@
 #![tactic(auto)]
 
 mod answer;
+mod begun;
 mod enter;
 mod loads;
 mod names;
-mod opened;
 mod parts;
 mod planning;
 mod search;
 
 pub use answer::decide;
+pub use begun::{Begun, begin};
 pub use enter::{enter_opening, enter_refusal};
 pub use loads::loads_of;
 pub use names::asked;
-pub use opened::{Opened, open_pair};
 pub use parts::{cut, pages_needed};
 pub use planning::{Opening, plan};
 pub use search::find_chain;

@@ -1,30 +1,21 @@
-use Rattle.std.proofs.Common.{◌≡◌, ◌∙◌, ℕ, sym, ap, subst, refl, length, List}
+use Rattle.std.proofs.Common.{◌≡◌, ◌∙◌, ◌+◌, ◌≤◌, ℕ, sym, ap, subst, refl, length, List, rules}
 use Rattle.module_counts.specs.Counting.{Booked}
 use Rattle.runtime_histories.specs.declared.refusals.Refusal.{Refusal}
 use Rattle.runtime_histories.specs.declared.entries.Reply.TheVariants.{Refused}
 use Rattle.runtime_histories.specs.declared.refusals.Asked.{Asked}
 use Rattle.runtime_histories.specs.Entries.{deeds}
 use Rattle.pair_openings.specs.Answers.{Answers, Refuses, reply_of}
-use Rattle.pair_openings.specs.Entered.{Enters, IsNextIn, Leaves, Stays, HasOpened, HasRefused, ground_of, entry_of}
+use Rattle.pair_openings.specs.Entered.{Enters, IsNextIn, Leaves, Stays, HasBegun, HasRefused, ground_of, entry_of}
 use Rattle.pair_openings.specs.Loading.{Ground}
-use Rattle.pair_openings.proofs.RoomMade.{next_in, leaves_after, refusal_next, refusal_left}
+use Rattle.pair_openings.proofs.RoomMade.{ground_same, next_in, leaves_after, refusal_next, refusal_left, room_refused, room_kept, kept_limit}
+use Rattle.runtime_histories.specs.Deeds.{live}
 use Rattle.pair_openings.specs.Asking.{asked_of}
 use Rattle.module_graph.specs.Graph.{Shape}
 use Rattle.runtime_histories.specs.declared.entries.Entry.{Entry}
 use Rattle.runtime_histories.specs.declared.module_tables.ModuleTables.{ModuleTables}
 use Rattle.std.specs.declared.vec.Vec.{Vec}
 use Rattle.std.specs.declared.alloc.Global.{Global}
-use Rattle.pair_openings.proofs.opened.open_pair.Goals as goal
-
-pub enter_opening-number-requires-clause-legal : goal.enter_opening-number-requires-clause-legal
-enter_opening-number-requires-clause-legal g c =
-    let m = c.reserve.new.self in
-    let graph : c.args.graph.now ≡ m.graph = c.requires.graph ∙ sym c.reserve.ensures.same.0 in
-    let old = g.L.Library.holdings c.args.library.now in
-    let new = g.L.Library.holdings c.decide.new.library in
-    let d = c.args.dir.now in
-    let ok = subst (λ (z : Shape). Answers (record { directory = d; graph = z; pages = m.pages; log = deeds m.journal }) old new c.asked-from.result c.asked-to.result c.in-Ok-decide.opening) graph c.in-Ok-decide.ensures.ok in
-    next_in c.args.aliases.now d m old new c.asked-from.result c.asked-to.result (reply_of c.in-Ok-decide.opening) ok.reply
+use Rattle.pair_openings.proofs.begun.begin.Goals as goal
 
 pub returns-in-Ok-decide-clause-ok : goal.returns-in-Ok-decide-clause-ok
 returns-in-Ok-decide-clause-ok g c =
@@ -35,18 +26,17 @@ returns-in-Ok-decide-clause-ok g c =
     let old = g.L.Library.holdings c.args.library.now in
     let new = g.L.Library.holdings c.decide.new.library in
     let d = c.args.dir.now in
-    let ok = subst (λ (z : Shape). Answers (record { directory = d; graph = z; pages = m.pages; log = deeds m.journal }) old new c.asked-from.result c.asked-to.result c.in-Ok-decide.opening) graph c.in-Ok-decide.ensures.ok in
-    let b = c.enter_opening-number.new.counts in
     let from = asked_of c.args.aliases.now c.args.from.now in
     let to = asked_of c.args.aliases.now c.args.to.now in
-    let reply = reply_of c.in-Ok-decide.opening in
-    let left = leaves_after a m b stays d old new c.args.caller c.asked-from.result c.asked-to.result reply ok.reply c.enter_opening-number.ensures.enters in
+    let ok = subst (λ (z : Shape). Answers (record { directory = d; graph = z; pages = m.pages; log = deeds m.journal }) old new c.asked-from.result c.asked-to.result c.in-Ok-decide.opening) graph c.in-Ok-decide.ensures.ok in
+    let there = subst (λ (z : Ground). Answers z old new c.asked-from.result c.asked-to.result c.in-Ok-decide.opening) (ground_same a m m stays d) ok in
     record {
-      opening = c.in-Ok-decide.opening;
-      leaves = subst (λ (z : Asked). Leaves d a b old new c.args.caller z to reply) c.asked-from.ensures.value
-          (subst (λ (z : Asked). Leaves d a b old new c.args.caller c.asked-from.result z reply) c.asked-to.ensures.value left);
-      number = c.enter_opening-number.ensures.number ∙ ap (λ (z : List Entry). length z) c.reserve.ensures.journal;
-      tables = ok.tables ∙ ap (λ (z : Vec ModuleTables Global). z.items) (sym c.enter_opening-number.ensures.tables);
+      stays = stays;
+      limit = search rules;
+      room = subst (λ (z : List Entry). length (live (deeds z)) + 2 ≤ m.spare) (sym c.reserve.ensures.journal) (search rules);
+      names = (c.asked-from.ensures.value, c.asked-to.ensures.value);
+      answers = subst (λ (z : Asked). Answers (ground_of d a) old new z to c.in-Ok-decide.opening) c.asked-from.ensures.value
+          (subst (λ (z : Asked). Answers (ground_of d a) old new c.asked-from.result z c.in-Ok-decide.opening) c.asked-to.ensures.value there);
     }
 
 pub enter_refusal-requires-clause-legal : goal.enter_refusal-requires-clause-legal

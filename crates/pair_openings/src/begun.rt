@@ -1,27 +1,29 @@
-//! A pair is opened.
+//! An opening is begun.
 ghost use Rattle.std.specs.Prelude.{◌≡◌, ◌+◌, ◌≤◌, length, IfOk, IfErr};
 ghost use Rattle.text_lines.specs.Limits.{longest_text};
 ghost use Rattle.runtime_histories.specs.Charmaps.{HasText};
 ghost use Rattle.pair_openings.specs.Asking.{asked_of};
-ghost use Rattle.pair_openings.specs.Entered.{HasOpened, HasRefused, is_want};
+ghost use Rattle.pair_openings.specs.Entered.{HasBegun, HasRefused, KeepsLimit, is_want};
 
 use crate::answer::decide;
-use crate::enter::{enter_opening, enter_refusal};
+use crate::enter::enter_refusal;
 use crate::names::asked;
+use crate::planning::Opening;
 use module_counts::Counts;
 use module_graph::Graph;
 use names_alias::Aliases;
 use outside::Library;
-use runtime_histories::{ModuleTables, Refusal};
+use runtime_histories::{Asked, Refusal};
 use std::alloc::Global;
 use std::sync::ledger::Ledger;
 use work_steps::Steps;
 
-/// A pair that was opened: the position of its entry, and the tables of the modules that it loaded.
+/// An opening that can be made: its names as asked, and how it is answered.
 #[derive(Drop)]
-pub struct Opened {
-    pub number: u64,
-    pub tables: Vec<ModuleTables>,
+pub struct Begun {
+    pub from: Asked,
+    pub to: Asked,
+    pub opening: Opening,
 }
 
 /// The same refusal, without an allocation.
@@ -70,8 +72,10 @@ fn is_memory(why: &Refusal) -> bool
     }
 }
 
-/// Opens a pair: makes room, decides, and enters what was decided.
-pub fn open_pair<L: Library, K: Ledger>(
+/// Begins the opening of a pair: makes room and decides. A refusal is entered, but for that of a full
+/// journal and want of memory. What can be made isn't entered yet, so that its caller may take the
+/// memory that it needs before.
+pub fn begin<L: Library, K: Ledger>(
     alloc: Global,
     counts: &mut Counts,
     graph: &Graph,
@@ -82,15 +86,16 @@ pub fn open_pair<L: Library, K: Ledger>(
     from: &[u8],
     to: &[u8],
     steps: &mut Steps<K>,
-) -> Result<Opened, Refusal>
+) -> Result<Begun, Refusal>
     requires graph { graph.now ≡ counts.old.graph }
     requires text { HasText graph.now }
     requires from { length from.now ≤ longest_text }
     requires to { length to.now ≤ longest_text }
-    ensures ok { IfOk result (HasOpened dir.now counts.old counts.new (L.holdings library.old) (L.holdings library.new)
-        caller (asked_of aliases.now from.now) (asked_of aliases.now to.now)) }
+    ensures ok { IfOk result (HasBegun dir.now counts.old counts.new (L.holdings library.old) (L.holdings library.new)
+        (asked_of aliases.now from.now) (asked_of aliases.now to.now)) }
     ensures err { IfErr result (HasRefused dir.now counts.old counts.new (L.holdings library.old) (L.holdings library.new)
         caller (asked_of aliases.now from.now) (asked_of aliases.now to.now)) }
+    ensures limit { IfErr result (KeepsLimit counts.old) }
     ensures steps { steps.new ≤ steps.old + length graph.now.edges }
 {
     match counts.reserve() {
@@ -100,10 +105,7 @@ pub fn open_pair<L: Library, K: Ledger>(
     let from = asked(aliases, from);
     let to = asked(aliases, to);
     match decide(alloc, counts, graph, library, dir, &from, &to, steps) {
-        Ok(opening) => {
-            let (number, tables) = enter_opening(counts, graph, caller, from, to, opening);
-            Ok(Opened { number, tables })
-        }
+        Ok(opening) => Ok(Begun { from, to, opening }),
         Err(why) => {
             if is_memory(&why) {
                 return Err(why);

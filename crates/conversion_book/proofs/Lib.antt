@@ -1,0 +1,10 @@
+pub mod Residing
+pub mod Keeping
+pub mod Holding
+pub mod Charting
+pub mod Texts
+pub mod Sharing
+pub mod Wholes
+pub mod Loading
+pub mod Booking
+pub mod Opening
