@@ -1,0 +1,7 @@
+pub mod Grounds
+pub mod Rooms
+pub mod Desks
+pub mod Apart
+pub mod Words
+pub mod Held
+pub mod RoomLaws
