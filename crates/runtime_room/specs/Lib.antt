@@ -1,6 +1,7 @@
 pub mod Grounds
 pub mod Rooms
 pub mod Desks
+pub mod Puts
 pub mod Apart
 pub mod Words
 pub mod Held

@@ -6,6 +6,7 @@
 
 mod basis;
 mod desk;
+mod filling;
 mod story;
 
 pub use basis::Basis;
