@@ -63,10 +63,11 @@ impl<L: Library> Gconv<L> {
             × (front caller.new ≡ front caller.old)
             × (descriptor.new.number ≡ descriptor.old.number) }
     {
+        let pins = descriptor.pins.as_slice();
         let mut tables = Pinned {
             hall: &self.hall,
             pass: &mut caller.pass,
-            pins: descriptor.pins.as_slice(),
+            pins,
         };
         descriptor.runner.reset(&mut tables, output)
     }

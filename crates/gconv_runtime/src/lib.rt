@@ -6,6 +6,9 @@
 
 mod calls;
 mod converting;
+mod held;
+mod making;
 mod tokens;
 
-pub use tokens::{Caller, Closed, Descriptor, Front, Gconv, Holding, Lead};
+pub use held::Held;
+pub use tokens::{Caller, Closed, Descriptor, Front, Gconv, Holding, Lead, NoMemory};

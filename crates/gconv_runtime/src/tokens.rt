@@ -59,3 +59,9 @@ pub struct Closed<L> {
     pub library: L,
     pub journal: Vec<Entry>,
 }
+
+/// There was no memory for a runtime.
+#[derive(Drop)]
+pub struct NoMemory<L> {
+    pub library: L,
+}

@@ -14,5 +14,5 @@ pub record Ground : Type 0 where
 -- The charmaps of all modules have paths, and pages and entries can be counted.
 pub record IsGround (g : Ground) : Type 0 where
   pub text : HasText g.setting.first.graph
-  pub pages : g.setting.pages ≤ 2 ^ 24
+  pub pages : g.setting.pages ≤ 2 ^ 16
   pub limit : g.limit ≤ 2 ^ 24

@@ -1,7 +1,7 @@
 use Rattle.std.proofs.Common.{sym, subst}
 use Rattle.chain_steps.specs.Chains.{CanRun}
 use Rattle.chain_steps.specs.Runs.{IsCall}
-use Rattle.gconv_runtime.proofs.Looking.{owned_tells}
+use Rattle.gconv_runtime.specs.Looking.{owned_tells}
 use Rattle.gconv_runtime.proofs.tokens.Gconv.convert.Goals as goal
 
 pub convert-requires-clause-ready : goal.convert-requires-clause-ready

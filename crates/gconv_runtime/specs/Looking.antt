@@ -1,4 +1,4 @@
--- The pins of a descriptor are those of tables that its caller holds.
+-- The pins of a descriptor are those of tables that its caller holds. No public clause cites it.
 use Rattle.std.proofs.Common.{◌≡◌, ℕ, zero, suc, ◌+◌, ◌*◌, ◌<◌, ◌≤◌, eqb, Bool, true, false, ◌||◌, cond, List, [], ◌∷◌, ◌++◌, length, take, drop, map, Option, Some, None, sym, refl, ap, ◌∙◌, subst, arith, inl, inr, ⊎_elim, true≢false, eq-eqb, ne_eqb, append_assoc, length-drop}
 use Rattle.std.proofs.lemmas.List.{length-take-le, take-append-drop}
 use mathlib.Core.Logic.{dite}
