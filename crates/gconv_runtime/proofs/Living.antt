@@ -1,8 +1,8 @@
 -- What a caller has that has no entry.
-use Rattle.std.proofs.Common.{◌≡◌, ◌≢◌, ℕ, suc, ◌<◌, eqb, Bool, true, false, not, ◌&&◌, cond, List, [], ◌∷◌, ◌++◌, length, sym, refl, ap, ◌∙◌, ne_eqb, arith}
+use Rattle.std.proofs.Common.{◌≡◌, ◌≢◌, ℕ, suc, eqb, Bool, not, ◌&&◌, cond, List, [], ◌∷◌, ◌++◌, length, sym, refl, ap, ◌∙◌, ne_eqb, arith}
 use Rattle.std.specs.List.{filter, AllByRecursion}
 use Rattle.history_core.specs.History.{History, EachNumber}
-use Rattle.runtime_histories.specs.Deeds.{Act, Deed, opens, closes, rests, Deeds, Desc, opened, openings, closed}
+use Rattle.runtime_histories.specs.Deeds.{Deed, opens, closes, rests, Deeds, Desc, opened, openings, closed}
 use Rattle.runtime_histories.specs.Pins.{live_of}
 use Rattle.runtime_room.specs.Rooms.{IsOwn, deeds_of}
 use Rattle.runtime_room.specs.declared.desk.Noted.{Noted}

@@ -1,22 +1,22 @@
 -- The pins of a descriptor are those of tables that its caller holds. No public clause cites it.
-use Rattle.std.proofs.Common.{◌≡◌, ℕ, zero, suc, ◌+◌, ◌*◌, ◌<◌, ◌≤◌, eqb, Bool, true, false, ◌||◌, cond, List, [], ◌∷◌, ◌++◌, length, take, drop, map, Option, Some, None, sym, refl, ap, ◌∙◌, subst, arith, inl, inr, ⊎_elim, true≢false, eq-eqb, ne_eqb, append_assoc, length-drop}
+use Rattle.std.proofs.Common.{◌≡◌, ℕ, zero, suc, ◌*◌, ◌<◌, eqb, Bool, true, false, ◌||◌, cond, List, [], ◌∷◌, ◌++◌, length, take, drop, map, Option, Some, None, sym, refl, ap, ◌∙◌, subst, arith, inl, inr, ⊎_elim, true≢false, eq-eqb, ne_eqb, append_assoc, length-drop}
 use Rattle.std.proofs.lemmas.List.{length-take-le, take-append-drop}
 use mathlib.Core.Logic.{dite}
 use native.Mathlib.Decide.{ℕ_discrete}
 use Rattle.std.specs.List.{filter, list_any, AllByRecursion}
 use Rattle.std.specs.Str.{bytes_eq}
 use Rattle.std.proofs.lemmas.Slice.Eq.{bytes_eq-Decides}
-use Rattle.code_pairs.specs.Tables.{Table, Tables}
+use Rattle.code_pairs.specs.Tables.{Table}
 use Rattle.code_table.specs.Images.{page_count, root_of, code_leaves}
 use Rattle.trie.proofs.Fills.{some_page}
 use Rattle.module_counts.specs.Stocks.{Once}
-use Rattle.page_store.specs.Holdings.{Holding, Among, is_held, table_in, IsWithin, IsPin}
+use Rattle.page_store.specs.Holdings.{Holding, Among, is_held, table_in, IsWithin}
 use Rattle.page_store.specs.Pins.{ArePins, tables_of}
 use Rattle.page_store.specs.declared.pin.Pin.{Pin}
 use Rattle.runtime_histories.specs.Deeds.{Desc, Deeds, IsIn}
 use Rattle.runtime_histories.specs.Pins.{live_of, holds, held_by}
 use Rattle.runtime_histories.specs.Places.{Placed, among, pages_for, all_pages, places}
-use Rattle.runtime_room.specs.Apart.{Share, IsOrdered, once_split, all_split, all_join, among_both, among-append}
+use Rattle.runtime_room.specs.Apart.{Share, IsOrdered, once_split, all_split, all_join, among-append}
 use Rattle.runtime_room.specs.Puts.{joined}
 use Rattle.runtime_room.specs.Rooms.{parts, parts_of}
 use Rattle.history_core.specs.History.{History}
@@ -25,7 +25,7 @@ use Rattle.runtime_room.specs.Grounds.{Ground}
 use Rattle.runtime_room.specs.Rooms.{IsHistory, deeds_of, holdings}
 use Rattle.runtime_room.specs.Held.{ordered_held}
 use Rattle.runtime_room.specs.declared.desk.Noted.{Noted}
-use Rattle.gconv_runtime.specs.Owning.{tables_by, desc_tables, place_of, parts_at, parts_for, tables_for, IsThere, AreThere, IsPinOf, ArePinsOf}
+use Rattle.gconv_runtime.specs.Owning.{tables_by, desc_tables, place_of, parts_at, parts_for, ArePinsOf}
 
 -- the pages of holdings
 abbrev pub pages_in : List Holding → List ℕ
@@ -222,11 +222,14 @@ pins_tell all words pages (p ∷ ps) (h ∷ hs) once some e below there pins =
     let b = among_all (λ (x : Holding). AllByRecursion (λ (k : ℕ). k < pages) x.pages) all h (pages_below pages all below) there.0 in
     let t : table_in all p.pages.items ≡ h.table = ap (table_in all) pins.0.0 ∙ f.1 in
     record {
-      pins = (record {
-        held = ap (is_held all) pins.0.0 ∙ f.0;
-        inside = subst (AllByRecursion (IsWithin words)) (sym pins.0.0) (within_all words pages h.pages e b);
-        decode = pins.0.1 ∙ ap root_of (sym t);
-      }, r.pins);
+      pins = (
+        record {
+          held = ap (is_held all) pins.0.0 ∙ f.0;
+          inside = subst (AllByRecursion (IsWithin words)) (sym pins.0.0) (within_all words pages h.pages e b);
+          decode = pins.0.1 ∙ ap root_of (sym t);
+        },
+        r.pins,
+      );
       tables = λ i. t i ∷ r.tables i;
     }
 

@@ -1,5 +1,5 @@
 -- What one entry more keeps.
-use Rattle.std.proofs.Common.{◌≡◌, ◌⊎◌, ℕ, ◌+◌, List, [], ◌∷◌, ◌++◌, Some, sym, refl, ap, ◌∙◌, subst, arith, inl, inr, ⊎_elim}
+use Rattle.std.proofs.Common.{◌≡◌, ◌⊎◌, ℕ, ◌+◌, List, [], ◌∷◌, ◌++◌, Some, sym, ap, ◌∙◌, subst, arith, inl, inr, ⊎_elim}
 use Rattle.std.specs.List.{filter, AllByRecursion}
 use Rattle.std.specs.declared.vec.Vec.{Vec}
 use Rattle.std.specs.declared.alloc.Global.{Global}
@@ -7,7 +7,7 @@ use Rattle.code_table.specs.declared.image.Layout.{Layout}
 use Rattle.history_core.specs.History.{History}
 use Rattle.history_core.specs.Rule.{last_fill}
 use Rattle.runtime_histories.specs.declared.entries.Entry.{Entry}
-use Rattle.runtime_histories.specs.Deeds.{Act, act, Deed, Deeds, marks}
+use Rattle.runtime_histories.specs.Deeds.{Act, act, Deed, marks}
 use Rattle.runtime_histories.specs.Entries.{deed_of, deeds}
 use Rattle.runtime_histories.specs.Legal.{Legal, Next}
 use Rattle.runtime_histories.specs.Pins as pins

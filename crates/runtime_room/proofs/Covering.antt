@@ -1,5 +1,5 @@
 -- What is pinned after an entry was pinned before it, or was put into pages that nobody had pinned.
-use Rattle.std.proofs.Common.{◌≡◌, ◌⊎◌, ℕ, zero, suc, ◌+◌, ◌*◌, ◌/◌, ◌%◌, ◌<◌, ◌≤◌, eqb, Bool, true, false, ◌||◌, cond, List, [], ◌∷◌, ◌++◌, length, take, drop, map, Option, Some, None, sym, refl, ap, ◌∙◌, subst, arith, inl, inr, ⊎_elim, true≢false, ne_eqb, append_assoc, append-nil, get_or-take, get_or-drop, get_or-append-add, length-drop}
+use Rattle.std.proofs.Common.{◌≡◌, ◌⊎◌, ℕ, zero, suc, ◌+◌, ◌*◌, ◌/◌, ◌%◌, ◌<◌, ◌≤◌, eqb, Bool, true, false, cond, List, [], ◌∷◌, ◌++◌, length, take, drop, map, Option, Some, None, sym, refl, ap, ◌∙◌, subst, arith, inl, inr, ⊎_elim, true≢false, ne_eqb, append_assoc, append-nil, get_or-take, get_or-drop, get_or-append-add, length-drop}
 use Rattle.std.proofs.lemmas.List.{get_or_append_left}
 use mathlib.Core.Logic.{dite}
 use native.Mathlib.Decide.{ℕ_discrete}
@@ -7,7 +7,7 @@ use Rattle.std.specs.Prelude.{slice_index}
 use Rattle.std.specs.List.{filter, position_from, AllByRecursion}
 use Rattle.std.specs.Option.{option_map}
 use Rattle.code_pairs.specs.Tables.{Table, Tables}
-use Rattle.code_table.specs.Images.{page_count, image, image_word}
+use Rattle.code_table.specs.Images.{page_count, image}
 use Rattle.code_table.proofs.ImageLaws.{length-image}
 use Rattle.history_core.specs.Rule.{last_fill}
 use Rattle.module_counts.specs.Stocks.{Once, places_for}
@@ -17,16 +17,16 @@ use Rattle.runtime_histories.specs.Deeds.{Loaded, Act, act, Deed, opens, closes,
 use Rattle.runtime_histories.specs.Entries.{deed_of, deeds}
 use Rattle.runtime_histories.specs.Legal.{load_pages, Next}
 use Rattle.runtime_histories.specs.Pins.{words_of, word_in, or_word, word_among, holds, held_by, pinned}
-use Rattle.runtime_histories.specs.Places.{Placed, among, pages_for, all_pages, all_needs, lowest, placed_at, place_loads, place_deed, places}
+use Rattle.runtime_histories.specs.Places.{Placed, among, pages_for, all_pages, all_needs, placed_at, place_loads, place_deed, places}
 use Rattle.runtime_histories.specs.Residence.{resident}
 use Rattle.runtime_histories.specs.Settings.{Setting}
 use Rattle.runtime_histories.proofs.Basics.{In-append, In-filter}
 use Rattle.runtime_histories.proofs.Legality.{deeds-snoc}
 use Rattle.runtime_histories.proofs.Pinning.{places-snoc}
-use Rattle.runtime_room.specs.Apart.{Share, IsOrdered, AreGood, CanPlace, can_next, ordered_deed, ordered_more, ordered_loads, once_split, all_split, all_pages-append, among_filtered, share_flip}
+use Rattle.runtime_room.specs.Apart.{Share, IsOrdered, AreGood, can_next, ordered_deed, ordered_more, ordered_loads, once_split, all_split, all_pages-append, among_filtered, share_flip}
 use Rattle.runtime_room.specs.Puts.{IsPut, all_parts, Fit, joined}
 use Rattle.runtime_room.specs.Rooms.{LoadsPoints, parts}
-use Rattle.runtime_room.specs.Words.{no_words, word_found, HasWord, word_some, all_in}
+use Rattle.runtime_room.specs.Words.{no_words, word_found, word_some, all_in}
 
 take-index : (n : ℕ) (xs : List ℕ) (i : ℕ) → i < n → slice_index (take n xs) i ≡ slice_index xs i
 take-index n xs i lt = get_or-take n xs i _ lt

@@ -1,12 +1,12 @@
 -- Tables that are put into pages, one after another.
-use Rattle.std.proofs.Common.{◌≡◌, ◌≢◌, ℕ, zero, suc, ◌+◌, ◌*◌, ◌/◌, ◌<◌, ◌≤◌, eqb, Bool, true, false, ◌||◌, cond, List, [], ◌∷◌, ◌++◌, length, take, drop, sym, refl, ap, ◌∙◌, subst, arith, append_assoc, append-nil, true≢false, eq-eqb, length-drop, get_or, map}
+use Rattle.std.proofs.Common.{◌≡◌, ◌≢◌, ℕ, zero, suc, ◌+◌, ◌*◌, ◌/◌, ◌<◌, ◌≤◌, eqb, Bool, true, false, ◌||◌, List, [], ◌∷◌, ◌++◌, length, take, drop, sym, refl, ap, ◌∙◌, subst, arith, append_assoc, append-nil, true≢false, eq-eqb, length-drop, get_or}
 use Rattle.std.specs.declared.vec.Vec.{Vec}
 use Rattle.std.specs.declared.alloc.Global.{Global}
 use Rattle.std.proofs.lemmas.List.{length-take-le, take-append-drop}
 use Rattle.std.specs.Prelude.{slice_index}
 use Rattle.std.specs.List.{AllByRecursion}
 use Rattle.code_pairs.specs.Tables.{Table, Tables}
-use Rattle.code_table.specs.Images.{page_count, image_word}
+use Rattle.code_table.specs.Images.{page_count}
 use Rattle.history_core.specs.Rule.{last_fill}
 use Rattle.history_core.specs.Tokens.{front}
 use Rattle.history_core.specs.declared.story.Story.{Ghosts}
@@ -14,9 +14,9 @@ use Rattle.history_core.specs.declared.tokens.Hall.{Hall}
 use Rattle.history_core.specs.declared.tokens.Pass.{Pass}
 use Rattle.history_core.specs.declared.tokens.Turn.{Turn}
 use Rattle.module_counts.specs.Stocks.{Once, lists}
-use Rattle.page_store.specs.Holdings.{Holding, AreApart, side, IsWithin}
+use Rattle.page_store.specs.Holdings.{Holding, AreApart, side}
 use Rattle.runtime_histories.specs.Places.{among, pages_for}
-use Rattle.runtime_room.specs.Apart.{Share, once_split, all_split, all_join, all_map, among-append, among_both}
+use Rattle.runtime_room.specs.Apart.{Share, once_split, all_split, all_join, all_map, among_both}
 use Rattle.runtime_room.specs.Puts.{IsPut, all_parts, Fit, joined, KeepsElse, IsFreePage, CanPut}
 use Rattle.runtime_room.specs.Rooms.{parts}
 
@@ -68,8 +68,8 @@ done_kept rest part behind old new h in_part in_behind kept d = record {
   count = d.count;
   away = all_map (λ (k : ℕ). among k rest ≡ false) (λ (k : ℕ). among k behind ≡ false) h.pages in_behind d.away;
   put = λ page place lt few.
-    kept (side h.pages page place) (ap (λ (n : ℕ). among n part) (page_of (slice_index h.pages page) place few) ∙ in_part (slice_index h.pages page) (share_at h.pages rest page 0 d.away (let c = d.count in omega arith)))
-    ∙ d.put page place lt few;
+      kept (side h.pages page place) (ap (λ (n : ℕ). among n part) (page_of (slice_index h.pages page) place few) ∙ in_part (slice_index h.pages page) (share_at h.pages rest page 0 d.away (let c = d.count in omega arith)))
+      ∙ d.put page place lt few;
 }
 
 pub done_all : (rest part behind : List ℕ) (old new : List (ℕ × ℕ)) (hs : List Holding) → ((k : ℕ) → among k rest ≡ false → among k part ≡ false) → ((k : ℕ) → among k rest ≡ false → among k behind ≡ false)
@@ -196,9 +196,10 @@ parts_done [] pages rest fills fits away put = tt
 parts_done (t ∷ ts) pages rest fills fits away put =
     let d = length-drop (page_count t) pages in
     let s = all_split (λ (k : ℕ). among k rest ≡ false) (take (page_count t) pages) (drop (page_count t) pages)
-    (subst (AllByRecursion (λ (k : ℕ). among k rest ≡ false)) (sym (take-append-drop (page_count t) pages)) away) in
-    (record { count = length-take-le (page_count t) pages (omega arith); away = s.0; put = put.0 },
-    parts_done ts (drop (page_count t) pages) rest fills (omega arith) s.1 put.1)
+    (subst (AllByRecursion (λ (k : ℕ). among k rest ≡ false)) (sym (take-append-drop (page_count t) pages)) away) in (
+      record { count = length-take-le (page_count t) pages (omega arith); away = s.0; put = put.0 },
+      parts_done ts (drop (page_count t) pages) rest fills (omega arith) s.1 put.1,
+    )
 
 -- So many modules are put.
 pub record IsPuttingAll (all : List Tables) (places : List (List ℕ)) (k : ℕ) (fills : List (ℕ × ℕ)) : Type 0 where

@@ -16,7 +16,7 @@ use Rattle.runtime_histories.specs.Charmaps.{AreTablesOf}
 use Rattle.runtime_histories.specs.Deeds.{Loaded, Act, act, Deed, opens, closes, rests, Deeds, marks}
 use Rattle.runtime_histories.specs.Entries.{deed_of, opening_of, deeds, loaded_of}
 use Rattle.runtime_histories.specs.Legal.{load_pages, AreRead, IsAnswered, IsNext, Next, LegalFrom}
-use Rattle.runtime_histories.specs.Places.{Placed, among, pages_for, all_pages, all_needs, free_of, lowest, placed_at, place_loads, place_deed, still, places, free}
+use Rattle.runtime_histories.specs.Places.{Placed, among, pages_for, all_pages, all_needs, free_of, lowest, placed_at, place_loads, place_deed, places}
 use Rattle.runtime_histories.specs.Residence.{resident}
 use Rattle.runtime_histories.specs.Settings.{Setting, Source}
 use Rattle.runtime_histories.proofs.Legality.{deeds-snoc}

@@ -1,6 +1,5 @@
 -- What the histories of a runtime stand on.
 use Rattle.std.specs.Prelude.{ℕ, ◌≤◌, ◌^◌}
-use Rattle.module_counts.specs.Counting.{IsKnown}
 use Rattle.runtime_histories.specs.Charmaps.{HasText}
 use Rattle.runtime_histories.specs.Settings.{Setting}
 

@@ -1,25 +1,25 @@
 -- What numbers hold is good, and stands in its pages.
-use Rattle.std.proofs.Common.{◌≡◌, ◌≢◌, ℕ, zero, suc, ◌+◌, ◌*◌, ◌^◌, ◌<◌, ◌≤◌, List, [], ◌∷◌, ◌++◌, length, take, drop, map, sym, refl, ap, ◌∙◌, subst, arith, ⊎_elim, length-drop}
+use Rattle.std.proofs.Common.{◌≡◌, ◌≢◌, ℕ, ◌^◌, ◌<◌, ◌≤◌, List, [], ◌∷◌, ◌++◌, length, take, drop, sym, ap, ◌∙◌, subst, arith, ⊎_elim, length-drop}
 use Rattle.std.proofs.lemmas.List.{length-take-le}
-use Rattle.std.specs.List.{filter, AllByRecursion}
+use Rattle.std.specs.List.{AllByRecursion}
 use Rattle.std.proofs.lemmas.List.{map-append}
 use Rattle.code_pairs.specs.Tables.{Table}
 use Rattle.code_table.specs.Images.{page_count}
 use Rattle.history_core.specs.History.{History, EachNumber}
 use Rattle.page_store.specs.Holdings.{Holding, Among, IsHolding, IsPinnedIn, side}
 use Rattle.runtime_histories.specs.declared.entries.Entry.{Entry}
-use Rattle.runtime_histories.specs.Deeds.{IsIn, Deeds}
+use Rattle.runtime_histories.specs.Deeds.{IsIn}
 use Rattle.runtime_histories.specs.Entries as entries
 use Rattle.runtime_histories.specs.Legal.{Legal}
 use Rattle.runtime_histories.specs.PinLaw.{NoneOf}
 use Rattle.runtime_histories.specs.Pins as pins
-use Rattle.runtime_histories.specs.Places.{Placed, pages_for, all_pages, all_needs, places}
+use Rattle.runtime_histories.specs.Places.{Placed, pages_for, all_needs, places}
 use Rattle.runtime_histories.proofs.Pinning.{pinned-stays}
 use Rattle.runtime_room.specs.Grounds.{Ground}
-use Rattle.runtime_room.specs.Rooms.{IsHistory, IsOwn, entries_of, deeds_of, parts, parts_of, holdings, pinned}
+use Rattle.runtime_room.specs.Rooms.{IsHistory, IsOwn, entries_of, deeds_of, parts, holdings, pinned}
 use Rattle.runtime_room.specs.declared.desk.Noted.{Noted}
 use Rattle.runtime_room.specs.Apart.{IsGood, IsOrdered, ordered_legal, ordered_filter, all_split}
-use Rattle.runtime_room.specs.Words.{IsPart, part_of, part_word, word_found, all_in, once_in}
+use Rattle.runtime_room.specs.Words.{part_of, part_word, word_found, all_in, once_in}
 
 -- The places after a legal history are ordered.
 pub ordered : (g : Ground) (log : History Noted) → IsHistory g log → IsOrdered g.setting.pages (places g.setting.pages (deeds_of log))

@@ -3,7 +3,6 @@ use Rattle.std.specs.Prelude.{◌≡◌, ℕ, ◌+◌, ◌*◌, ◌/◌, ◌<◌
 use Rattle.std.specs.List.{AllByRecursion}
 use Rattle.code_pairs.specs.Tables.{Tables}
 use Rattle.code_table.specs.Images.{page_count}
-use Rattle.history_core.specs.History.{History}
 use Rattle.history_core.specs.Rule.{last_fill}
 use Rattle.history_core.specs.Tokens.{words_of, IsFree}
 use Rattle.history_core.specs.declared.story.Story.{Ghosts}

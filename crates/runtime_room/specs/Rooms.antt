@@ -1,5 +1,5 @@
 -- The histories of a runtime: which are legal, what numbers hold, and what they have pinned.
-use Rattle.std.specs.Prelude.{◌≡◌, ◌≤◌, ℕ, ◌+◌, ◌*◌, List, [], ◌∷◌, ◌++◌, length, map, take, drop, Option}
+use Rattle.std.specs.Prelude.{◌≡◌, ℕ, List, [], ◌∷◌, ◌++◌, map, take, drop, Option}
 use Rattle.std.specs.List.{AllByRecursion}
 use Rattle.code_pairs.specs.Tables.{Table, HasPoints}
 use Rattle.code_table.specs.Images.{page_count}

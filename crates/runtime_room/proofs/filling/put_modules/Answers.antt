@@ -1,4 +1,4 @@
-use Rattle.std.proofs.Common.{subst, sym, ap, ◌∙◌, ◌+◌, drop, length, ◌≡◌, ℕ, List, arith}
+use Rattle.std.proofs.Common.{subst, sym, ap, ◌∙◌, ◌+◌, drop, length, ℕ, List, arith}
 use Rattle.std.specs.List.{AllByRecursion}
 use Rattle.code_pairs.specs.Tables.{Tables}
 use Rattle.history_core.specs.Tokens.{filled, IsTurnOf}

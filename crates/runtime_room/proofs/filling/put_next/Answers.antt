@@ -1,5 +1,4 @@
-use Rattle.std.proofs.Common.{subst, sym, ap, ◌∙◌, take, drop, ◌≡◌, ℕ, List}
-use Rattle.code_table.specs.Images.{page_count}
+use Rattle.std.proofs.Common.{subst, sym, ap, ◌∙◌, take, drop, ℕ, List}
 use Rattle.history_core.specs.Tokens.{filled}
 use Rattle.module_counts.specs.Stocks.{Once}
 use Rattle.runtime_room.specs.Puts.{IsPut, KeepsElse}

@@ -1,4 +1,4 @@
-use Rattle.std.proofs.Common.{subst, sym, ap, ◌∙◌, ◌+◌, drop, false, ◌≡◌, ◌/◌, ℕ, List, arith}
+use Rattle.std.proofs.Common.{subst, sym, ap, ◌∙◌, ◌+◌, false, ◌≡◌, ◌/◌, ℕ, List, arith}
 use Rattle.code_table.specs.Images.{page_count}
 use Rattle.history_core.specs.Tokens.{filled, IsTurnOf}
 use Rattle.runtime_histories.specs.Places.{among}

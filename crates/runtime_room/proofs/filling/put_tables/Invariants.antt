@@ -1,4 +1,4 @@
-use Rattle.std.proofs.Common.{length, ◌-◌, ◌≡◌, ◌≤◌}
+use Rattle.std.proofs.Common.{length, ◌-◌, ◌≡◌}
 use Rattle.history_core.specs.Tokens.{number, front, filled, IsTurnOf}
 use Rattle.runtime_room.specs.Puts.{KeepsElse}
 use Rattle.runtime_room.proofs.Putting.{IsPutting}
