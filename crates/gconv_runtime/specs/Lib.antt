@@ -1,0 +1,4 @@
+pub mod Tokens
+pub mod Owning
+pub mod Looking
+pub mod HeldLaws

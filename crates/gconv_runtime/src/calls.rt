@@ -1,0 +1,99 @@
+//! Callers are made and ended, and the runtime is closed.
+ghost use Rattle.std.specs.Prelude.{◌≡◌, ◌<◌, ◌+◌, ◌^◌, ◌∷◌, [], length, IfOk, MatchResult};
+ghost use Rattle.history_core.specs.History.{EachNumber, HasEnd, AreEnded};
+ghost use Rattle.outside.specs.Faults.{RoseBy};
+ghost use Rattle.runtime_histories.specs.Pins.{live_of};
+ghost use Rattle.runtime_room.specs.Desks.{blame};
+ghost use Rattle.runtime_room.specs.Rooms.{IsHistory, entries_of, deeds_of};
+ghost use Rattle.gconv_runtime.specs.Tokens.{Knows, Leads, number, front, lead_front, next_number};
+ghost use Rattle.gconv_runtime.specs.Tokens.{away_of, ended_of, lead_ground};
+
+use crate::tokens::{Caller, Closed, Front, Gconv, Holding, Lead};
+use outside::Library;
+use runtime_room::Desk;
+use std::alloc::AllocError;
+
+impl<L: Library> Lead<L> {
+    /// How many callers were made and not ended.
+    pub fn away(&self) -> u32
+        ensures { result ≡ length (away_of self.now) }
+    {
+        self.lead.away()
+    }
+}
+
+impl<L: Library> Gconv<L> {
+    /// Makes the next caller, numbered from 1.
+    pub fn caller(&self, lead: &mut Lead<L>) -> Result<Caller<L>, AllocError>
+        requires lead { Leads self.now lead.old }
+        requires few { next_number lead.old < 2 ^ 32 }
+        ensures lead { Leads self.now lead.new }
+        ensures knows { IfOk result (Knows self.now) }
+        ensures number { IfOk result (λ caller. number caller ≡ next_number lead.old) }
+        ensures front { IfOk result (λ caller. front caller ≡ lead_front lead.old) }
+        ensures next { next_number lead.new ≡ next_number lead.old + 1 }
+        ensures away { away_of lead.new ≡ next_number lead.old ∷ away_of lead.old }
+        ensures ended { ended_of lead.new ≡ ended_of lead.old }
+    {
+        let pass = self.hall.split(&mut lead.lead)?;
+        let _number = pass.number();
+        Ok(Caller { pass, live: 0 })
+    }
+
+    /// Ends a caller that has no live descriptor.
+    pub fn end(&self, lead: &mut Lead<L>, caller: Caller<L>) -> Result<Front, Holding<L>>
+        requires lead { Leads self.now lead.old }
+        requires knows { Knows self.now caller }
+        ensures lead { Leads self.now lead.new }
+        // Holding comes exactly where the caller has live descriptors.
+        ensures ended { MatchResult result
+            (λ seen. (live_of (number caller) (deeds_of (front caller)) ≡ [])
+            × (seen.length ≡ length (front caller))
+            × (ended_of lead.new ≡ (number caller, front caller) ∷ ended_of lead.old)
+            × AreEnded (ended_of lead.new) (lead_front lead.new))
+            (λ holding. (0 < holding.count)
+            × (holding.count ≡ length (live_of (number caller) (deeds_of (front caller))))
+            × (holding.caller ≡ caller) × (lead.new ≡ lead.old)) }
+    {
+        if caller.live > 0 {
+            return Err(Holding {
+                count: caller.live,
+                caller,
+            });
+        }
+        let length = caller.pass.seen();
+        let Caller { pass, live: _ } = caller;
+        self.hall.join(&mut lead.lead, pass);
+        Ok(Front { length })
+    }
+
+    /// Ends the runtime, and hands out its library and its journal, the whole history.
+    pub fn close(self, lead: Lead<L>) -> Closed<L>
+        requires lead { Leads self lead }
+        requires home { length (away_of lead) ≡ 0 }
+        ensures journal { result.journal.items ≡ entries_of (lead_front lead) }
+        ensures legal { IsHistory (lead_ground self lead) (lead_front lead) }
+        // Each caller's entries are those that it had seen when it was ended, and no other is there.
+        ensures ended { AreEnded (ended_of lead) (lead_front lead) }
+        ensures all { EachNumber (HasEnd (ended_of lead)) (lead_front lead) }
+        // The journal blames the library at most as often as it failed.
+        ensures blamed { RoseBy (blame (entries_of (lead_front lead))) (lead_ground self lead).faults
+            (L.holdings result.library).faults }
+    {
+        let Gconv { hall } = self;
+        let Lead { lead } = lead;
+        let Desk {
+            counts,
+            graph: _,
+            aliases: _,
+            library,
+            directory: _,
+            layouts: _,
+            first: _,
+        } = hall.close(lead);
+        Closed {
+            library,
+            journal: counts.done(),
+        }
+    }
+}

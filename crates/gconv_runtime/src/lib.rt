@@ -1,0 +1,14 @@
+//! A runtime of conversions: callers open, convert and close over one history, with the tables in
+//! shared pages.
+//!
+//! `specs/Tokens.antt` says what a runtime knows of its callers, and which descriptors they own.
+#![tactic(auto)]
+
+mod calls;
+mod converting;
+mod held;
+mod making;
+mod tokens;
+
+pub use held::Held;
+pub use tokens::{Caller, Closed, Descriptor, Front, Gconv, Holding, Lead, NoMemory};
