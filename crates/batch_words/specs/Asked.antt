@@ -1,5 +1,5 @@
 -- What the words of the program ask for.
-use Rattle.std.specs.Prelude.{◌≡◌, ◌==◌, ◌&&◌, ◌||◌, ℕ, Bool, true, false, nat_le, List, [], length, Option, Some, None, Result, Ok, Err, if◌then◌else◌, codes, is_some, option_map, slice_index_or, string_bytes}
+use Rattle.std.specs.Prelude.{◌≡◌, ◌==◌, ◌&&◌, ◌||◌, ◌≤◌, ℕ, Bool, true, false, nat_le, List, [], length, Option, Some, None, Result, Ok, Err, if◌then◌else◌, codes, is_some, option_map, slice_index_or, string_bytes}
 use Rattle.std.specs.Str.{bytes_eq}
 use Rattle.std.specs.Borrow.{Bor}
 use Rattle.clap.specs.Words.{Text, matches_of, Row, first_of}
@@ -45,6 +45,12 @@ plan_of p workers = record {
 -- what contracts see of what the words ask for
 abbrev pub request_of : Words → Request
 request_of w = plan_of w.plan w.workers
+
+-- names are no longer than they may be, and a number for an input is one of 1 to 1,000
+abbrev pub IsWithin : Source → Type 0
+IsWithin (Texts a b c d) = Unit {0}
+IsWithin (Single from to input output) = (length from ≤ LONGEST_NAME) × (length to ≤ LONGEST_NAME)
+IsWithin (Generated n) = (1 ≤ n) × (n ≤ MOST_NUMBER)
 
 -- an answer of a call that reads: what was asked, that nothing was, or want of memory
 abbrev pub Answers : {T M : Type 0} → Option M → (T → M) → Result T Refusal → Type 0

@@ -1,8 +1,8 @@
 //! From the words to what they ask for.
 
-ghost use Rattle.std.specs.Prelude.{◌≡◌, ◌≤◌, ◌+◌, ◌*◌, ◌^◌, ◌<◌, Some, map, length, option_map, string_bytes};
+ghost use Rattle.std.specs.Prelude.{◌≡◌, ◌≤◌, ◌+◌, ◌*◌, ◌^◌, ◌<◌, Some, map, length, IfOk, IfSome, option_map, string_bytes};
 ghost use Rattle.batch_words.specs.Numbers.{digits_after, number_in, number_or};
-ghost use Rattle.batch_words.specs.Asked.{Answers, asked, generated_asked, long_asked, long_form, request_of, is_short, short_asked, source_given, source_of, text_in, texts_asked, word};
+ghost use Rattle.batch_words.specs.Asked.{Answers, asked, generated_asked, long_asked, long_form, request_of, is_short, IsWithin, short_asked, source_given, source_of, text_in, texts_asked, word};
 ghost use Rattle.clap.specs.Words.{first_of, found_of, rows_of};
 
 use crate::command::matched;
@@ -28,7 +28,8 @@ fn digits_from(start: u64, digits: &[u8]) -> Option<u64>
 
 /// The number of one to ten digits, where it lies from `low` to `high`.
 fn number(low: u32, high: u32, text: &str) -> Option<u32>
-    ensures { result ≡ number_in low high text.now }
+    ensures value { result ≡ number_in low high text.now }
+    ensures within { IfSome result (λ n. (low ≤ n) × (n ≤ high)) }
 {
     let digits = text.as_bytes();
     if digits.is_empty() || 10 < digits.len() {
@@ -67,8 +68,9 @@ fn texts(
     charmaps: Option<&str>,
     jobs: Option<&str>,
 ) -> Result<PlanSource, Refusal>
-    ensures { Answers (texts_asked (text_in modules.entry) (text_in bindings.entry)
+    ensures value { Answers (texts_asked (text_in modules.entry) (text_in bindings.entry)
         (text_in charmaps.entry) (text_in jobs.entry)) source_of result }
+    ensures within { IfOk result (λ source. IsWithin (source_of source)) }
 {
     let Some(modules) = modules else {
         return Err(Refusal::Usage);
@@ -99,7 +101,8 @@ fn given<'a>(matches: &ArgMatches<'a>, name: &str) -> Option<&'a str>
 
 /// A made input, which stands alone.
 fn generated(has_others: bool, text: &str) -> Result<PlanSource, Refusal>
-    ensures { Answers (generated_asked has_others text.now) source_of result }
+    ensures value { Answers (generated_asked has_others text.now) source_of result }
+    ensures within { IfOk result (λ source. IsWithin (source_of source)) }
 {
     if has_others {
         return Err(Refusal::Usage);
@@ -112,7 +115,8 @@ fn generated(has_others: bool, text: &str) -> Result<PlanSource, Refusal>
 
 /// Where the jobs of a long form come from.
 fn source(alloc: Global, matches: &ArgMatches) -> Result<PlanSource, Refusal>
-    ensures { Answers (source_given (rows_of (found_of matches.now))) source_of result }
+    ensures value { Answers (source_given (rows_of (found_of matches.now))) source_of result }
+    ensures within { IfOk result (λ source. IsWithin (source_of source)) }
 {
     let modules = given(matches, "modules");
     let bindings = given(matches, "bindings");
@@ -144,7 +148,8 @@ fn journal(alloc: Global, text: Option<&str>) -> Result<Option<String>, Refusal>
 /// What the values of a long form ask for.
 #[tactic(auto, unfolding(crate::specs::Asked::long_asked))]
 fn planned(alloc: Global, matches: &ArgMatches) -> Result<Words, Refusal>
-    ensures { Answers (long_asked (rows_of (found_of matches.now))) request_of result }
+    ensures value { Answers (long_asked (rows_of (found_of matches.now))) request_of result }
+    ensures within { IfOk result (λ w. IsWithin (request_of w).source) }
 {
     let source = source(alloc, matches)?;
     let Some(pages) = number_given(USUAL_PAGES, MOST_PAGES, given(matches, "pages")) else {
@@ -167,7 +172,8 @@ fn planned(alloc: Global, matches: &ArgMatches) -> Result<Words, Refusal>
 /// What words in the long form ask for.
 #[tactic(auto, unfolding(crate::specs::Asked::long_form))]
 fn long(alloc: Global, words: &[String]) -> Result<Words, Refusal>
-    ensures { Answers (long_form (map string_bytes words.now)) request_of result }
+    ensures value { Answers (long_form (map string_bytes words.now)) request_of result }
+    ensures within { IfOk result (λ w. IsWithin (request_of w).source) }
 {
     match matched(alloc, words) {
         Ok(matches) => planned(alloc, &matches),
@@ -187,7 +193,8 @@ fn word_at(words: &[String], at: usize) -> &str
 #[tactic(auto, unfolding(crate::specs::Asked::short_asked))]
 fn short(alloc: Global, words: &[String]) -> Result<Words, Refusal>
     requires { length words.now ≡ 6 }
-    ensures { Answers (short_asked (map string_bytes words.now)) request_of result }
+    ensures value { Answers (short_asked (map string_bytes words.now)) request_of result }
+    ensures within { IfOk result (λ w. IsWithin (request_of w).source) }
 {
     let from = word_at(words, 1);
     let to = word_at(words, 3);
@@ -227,7 +234,8 @@ fn is_short_form(words: &[String]) -> bool
 /// no command.
 #[tactic(auto, unfolding(crate::specs::Asked::asked))]
 pub fn words_of(alloc: Global, words: &[String]) -> Result<Words, Refusal>
-    ensures { Answers (asked (map string_bytes words.now)) request_of result }
+    ensures value { Answers (asked (map string_bytes words.now)) request_of result }
+    ensures within { IfOk result (λ w. IsWithin (request_of w).source) }
 {
     if is_short_form(words) {
         short(alloc, words)
