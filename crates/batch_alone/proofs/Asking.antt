@@ -14,8 +14,7 @@ fetches-append s before [] ys a b h k =
     let Q : List Entry → Type 0 = λ z. FetchesFrom s z ys b in
     subst P (sym h) (subst Q (append-nil before) k)
 fetches-append s before (x ∷ xs) ys a b h k =
-    let Q : List Entry → Type 0 = λ z. FetchesFrom s z ys b in
-    (
+    let Q : List Entry → Type 0 = λ z. FetchesFrom s z ys b in (
       h.0,
       h.1 ++ b,
       ap (λ z. z ++ b) h.2 ∙ append_assoc h.0 h.1 b,

@@ -45,8 +45,7 @@ entered_snoc s caller at [] (v ∷ ws) es j w more h one = absurd h
 entered_snoc s caller at (k ∷ js) [] es j w more h one = absurd h
 entered_snoc s caller at (k ∷ js) (v ∷ ws) es j w more h one =
     let place : at + length es ≡ (at + length h.0) + length h.1 = let e = ap length h.2 ∙ length-append h.0 h.1 in omega (arith, e) in
-    let P : ℕ → Type 0 = λ p. Enters s caller p j w more in
-    (
+    let P : ℕ → Type 0 = λ p. Enters s caller p j w more in (
       h.0,
       h.1 ++ more,
       ap (λ xs. xs ++ more) h.2 ∙ append_assoc h.0 h.1 more,
@@ -118,7 +117,7 @@ own_of_one one caller at es all h = go (one == caller) refl
     keeps at (e ∷ es) b all is =
         let same : (e.caller == caller) ≡ b = ap (λ c. c == caller) all.0 ∙ is in
         let P : Bool → Type 0 = λ t. (if t then record { at = at; entry = e } ∷ own caller (placed_from (at + 1) es) else own caller (placed_from (at + 1) es))
-          ≡ (if b then placed_from at (e ∷ es) else []) in
+        ≡ (if b then placed_from at (e ∷ es) else []) in
         subst P (sym same) (step b (keeps (at + 1) es b all.1 is))
       where
         step : (b : Bool) → own caller (placed_from (at + 1) es) ≡ (if b then placed_from (at + 1) es else [])

@@ -65,7 +65,7 @@ asks_jobs s of (j ∷ js) (w ∷ ws) =
     let here = ask_one s of j w in
     let rest = asks_jobs s of js ws in
     let e : weight of (asks (call_of_job s j w ++ calls_of_jobs s js ws)) ≡ weight of (asks (call_of_job s j w)) + weight of (asks (calls_of_jobs s js ws)) =
-      ap (weight of) (map-append (λ (c : Call). c.ask) (call_of_job s j w) (calls_of_jobs s js ws)) ∙ weight-append of (asks (call_of_job s j w)) (asks (calls_of_jobs s js ws)) in
+    ap (weight of) (map-append (λ (c : Call). c.ask) (call_of_job s j w) (calls_of_jobs s js ws)) ∙ weight-append of (asks (call_of_job s j w)) (asks (calls_of_jobs s js ws)) in
     omega (arith, here, rest, e)
 
 asks_take : (s : Setting) (of : Ask → ℕ) (k : ℕ) (js : List JobLine) → weight of (map (ask_of s) (take k js)) ≤ weight of (map (ask_of s) js)
@@ -77,10 +77,10 @@ pub part_alone : (s : Setting) (workers k : ℕ) (js : List JobLine) (ws : List 
 part_alone s workers k js ws h legal e = record {
   orderly = orderly_alone s workers (take k js) ws h legal e;
   openings = λ of.
-    let same = ap (λ cs. weight of (asks cs)) (entered_calls s 1 0 (take k js) ws h e) in
-    let jobs = asks_jobs s of (take k js) ws in
-    let front = asks_take s of k js in
-    omega (arith, same, jobs, front);
+      let same = ap (λ cs. weight of (asks cs)) (entered_calls s 1 0 (take k js) ws h e) in
+      let jobs = asks_jobs s of (take k js) ws in
+      let front = asks_take s of k js in
+      omega (arith, same, jobs, front);
 }
 
 -- ---- the end

@@ -13,11 +13,11 @@ use Rattle.batch_jobs.specs.Jobs.{Text, JobLine, jobs_of}
 use Rattle.batch_alone.specs.Starts.{Aim, IsStarted}
 use Rattle.batch_runs.specs.declared.cause.Cause.{Cause}
 use Rattle.batch_runs.specs.declared.cause.Cause.TheVariants.{Done, Jobs, Usage, Input, InputFault, OutFault, Memory}
-use Rattle.batch_words.specs.Asked.{Source, Texts, Request}
+use Rattle.batch_words.specs.Asked.{Source, Texts, Single, Request}
 use Rattle.batch_runs.specs.declared.cause.Stop.TheVariants.{Refused, Faulted}
 use Rattle.batch_alone.specs.declared.halt.Halt.{Halt}
 use Rattle.batch_alone.specs.declared.halt.Halt.TheVariants as halt
-use Rattle.batch_runs.specs.Preparing.{AreRead, Prepared, wanted}
+use Rattle.batch_runs.specs.Preparing.{AreRead, Prepared, wanted, single_job}
 use Rattle.batch_alone.specs.Stops.{StopsRun, Tells}
 use Rattle.batch_runs.specs.Runs.{AreWithin, IsUntouched, RanFor, RanJobs, Stands, report_for, task_of}
 use Rattle.batch_runs.specs.Takings.{read_faults}
@@ -181,3 +181,36 @@ started_for q old mid new cause h x y z a b c d conf bound jobs is read is_conf 
     jobs_for q old mid new cause h (x ∷ y ∷ z ∷ []) (record { setting = s.setting; jobs = jobs }) a b c d is read
     (record { conf = conf; bound = bound; conf_is = is_conf; bound_is = is_bound; lines = lines; setting = subst S o.library s.is_setting })
     o (s.ends q.workers)
+
+-- a run that came to its jobs ended for a cause that such a run can have
+pub ran_jobs : (q : Request) (old new : World) (cause : Cause) (h : List Entry) → RanJobs q old new cause h → RanFor q old new cause h
+ran_jobs q old new Done h r = r
+ran_jobs q old new Jobs h r = r
+ran_jobs q old new Usage h r = r.ends
+ran_jobs q old new (Input which fault) h r = absurd r.ends
+ran_jobs q old new (InputFault which) h r = absurd r.ends
+ran_jobs q old new (OutFault which) h r = r
+ran_jobs q old new Memory h r = inr r
+
+-- ---- a run of one job by itself
+
+pub single_for : (q : Request) (old new : World) (cause : Cause) (h : List Entry) (a b c d : Text) (conf : Conf) (bound : List Binding) (jobs : List JobLine)
+    → q.source ≡ Single a b c d → conf_of [] ≡ Ok conf → bindings_of [] ≡ Ok bound → jobs ≡ single_job a b c d ∷ []
+    → IsStarted (aim_for conf bound jobs [] q) old new cause h → RanFor q old new cause h
+single_for q old new cause h a b c d conf bound jobs is is_conf is_bound lines (inl s) = short_for q old new cause h s.untouched s.is_cause s.told
+single_for q old new cause h a b c d conf bound jobs is is_conf is_bound lines (inr s) =
+    let p : Prepared = record { setting = s.setting; jobs = jobs } in
+    let R : Source → Type 0 = λ x. AreRead old.files.told (wanted x) [] None in
+    let S : Source → Type 0 = λ x. Stands x q.pages old.library.told [] p in
+    let W : Source → Type 0 = λ x. AreWithin x old new old new in
+    let B : Source → Type 0 = λ x. EndsBy (task_of q p) (report_for x) old new cause h in
+    ran_jobs q old new cause h (record {
+      texts = [];
+      read = subst R (sym is) tt;
+      prepared = p;
+      stands = subst S (sym is) (record { conf = conf; bound = bound; conf_is = is_conf; bound_is = is_bound; lines = lines; setting = s.is_setting });
+      first = old;
+      last = new;
+      within = subst W (sym is) (record { begins = refl; ends = refl });
+      ends = subst B (sym is) (s.ends q.workers);
+    })

@@ -101,8 +101,8 @@ pub taken_more : (told : Option Shelf) (jobs : List Job) (i : ℕ) (job : Job) (
     → AreTaken told all_inputs (names_of (map line_of (take (i + 1) jobs))) (map taking_of more)
 taken_more told jobs i job is more t left lt e pushed h sum one =
     let names : names_of (map line_of (take (i + 1) jobs)) ≡ names_of (map line_of (take i jobs)) ++ string_bytes job.input ∷ [] =
-      ap (λ xs. names_of (map line_of xs)) (take_next jobs i job lt e) ∙ ap names_of (map-append line_of (take i jobs) (job ∷ []))
-      ∙ map-append (λ (j : JobLine). j.input) (map line_of (take i jobs)) (line_of job ∷ []) in
+    ap (λ xs. names_of (map line_of xs)) (take_next jobs i job lt e) ∙ ap names_of (map-append line_of (take i jobs) (job ∷ []))
+    ∙ map-append (λ (j : JobLine). j.input) (map line_of (take i jobs)) (line_of job ∷ []) in
     let takings : map taking_of more ≡ map taking_of is ++ taking_of t ∷ [] = ap (map taking_of) pushed ∙ map-append taking_of is (t ∷ []) in
     let same : left ≡ all_inputs - read_count (map taking_of is) = omega (arith, sum) in
     let P : ℕ → Type 0 = λ a. TakesOne told (room a) (string_bytes job.input) (taking_of t) in

@@ -27,7 +27,7 @@ pub record OpensAndCloses (s : Setting) (caller at : ℕ) (job : JobLine) (entri
   pub loaded : List Load
   pub modules : Snapshot (List ℕ)
   pub is : entries
-    ≡ opening s caller job.from job.to (Opened chain cost loaded modules) ∷ closing caller at ∷ []
+      ≡ opening s caller job.from job.to (Opened chain cost loaded modules) ∷ closing caller at ∷ []
 
 -- the entries of a job's work, from a position on
 abbrev pub Enters : Setting → ℕ → ℕ → JobLine → Work → List Entry → Type 0

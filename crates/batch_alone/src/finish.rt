@@ -92,13 +92,7 @@ fn cause_of(good: bool, put: Sent, report: Sent) -> Cause
             Sent::Failed => Cause::OutFault {
                 which: Output::Report,
             },
-            Sent::Done => {
-                if good {
-                    Cause::Done
-                } else {
-                    Cause::Jobs
-                }
-            }
+            Sent::Done => { if good { Cause::Done } else { Cause::Jobs } }
         },
     }
 }
@@ -119,13 +113,23 @@ pub fn run_jobs<B: Runtime, F: Files, O: Sink>(
     requires fresh { IsFresh (B.book book) }
     ensures status { result.status ≡ status_of result.cause }
     ensures ended { (workers : ℕ) → EndsBy
-        (record { setting = (B.book book).setting; jobs = map line_of jobs.now; workers = workers;
-            file = option_map (λ s. s.now) file.entry })
+        (record {
+          setting = (B.book book).setting;
+          jobs = map line_of jobs.now;
+          workers = workers;
+          file = option_map (λ s. s.now) file.entry;
+        })
         (report_by sums)
-        (record { files = F.outside files.old; library = (B.book book).library;
-            sink = O.written out.old })
-        (record { files = F.outside files.new; library = B.Library.holdings result.library;
-            sink = O.written out.new })
+        (record {
+          files = F.outside files.old;
+          library = (B.book book).library;
+          sink = O.written out.old;
+        })
+        (record {
+          files = F.outside files.new;
+          library = B.Library.holdings result.library;
+          sink = O.written out.new;
+        })
         result.cause result.journal.items }
 {
     let mut book = book;

@@ -8,4 +8,3 @@ pub enum Halt {
     Stopped(Stop),
     Memory,
 }
-

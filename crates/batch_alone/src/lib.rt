@@ -11,11 +11,13 @@ mod puts;
 mod run;
 mod runtime;
 mod settling;
+mod single;
 mod texts;
 mod totals;
 mod work;
 
 pub use finish::Ended;
 pub use run::{Aim, run_prepared, run_texts};
+pub use single::run_single;
 pub use runtime::{Closed, Runtime};
 pub use work::Worked;

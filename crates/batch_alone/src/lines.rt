@@ -3,8 +3,8 @@
 ghost use Rattle.std.specs.Prelude.{◌≡◌, IfOk, string_bytes};
 ghost use Rattle.batch_runs.specs.Lines.{at_line, bind_reason, conf_reason, fault_line, job_reason, reason, refused_line, which_text};
 
-use batch_runs::{InputKind, Which};
 use batch_jobs::JobFault;
+use batch_runs::{InputKind, Which};
 use modules_conf::{BindFault, ConfFault};
 use std::alloc::{AllocError, Global};
 

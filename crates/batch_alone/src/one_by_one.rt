@@ -40,9 +40,9 @@ fn one_job<B: Runtime, F: Files>(
     requires idle { (B.book book.old).live ≡ 0 }
     ensures done { MatchResult result
         (λ r. DoesAndPuts (B.book book.old) (B.book book.new) (F.outside files.old)
-            (F.outside files.new) (line_of job.now) (taking_of input.now) sums r.0.outcome r.0.totals)
+        (F.outside files.new) (line_of job.now) (taking_of input.now) sums r.0.outcome r.0.totals)
         (λ _. IsCutBefore (B.book book.old) (B.book book.new) (F.outside files.old)
-            (F.outside files.new) (line_of job.now)) }
+        (F.outside files.new) (line_of job.now)) }
     ensures written { IfOk result (λ r. r.0.totals.written ≤ 134217736) }
     ensures sum { IfOk result (λ r. r.0.totals.sum ≤ 255 * r.0.totals.written) }
 {
@@ -67,10 +67,10 @@ pub fn do_jobs<B: Runtime, F: Files>(
     requires fresh { IsFresh (B.book book.old) }
     ensures done { MatchResult result
         (λ s. AreDone (B.book book.old) (B.book book.new) (F.outside files.old)
-            (F.outside files.new) (map line_of jobs.now) (map taking_of inputs.now)
-            s.outcomes.items sums s.totals)
+        (F.outside files.new) (map line_of jobs.now) (map taking_of inputs.now)
+        s.outcomes.items sums s.totals)
         (λ _. AreHalted (B.book book.old) (B.book book.new) (F.outside files.old)
-            (F.outside files.new) (map line_of jobs.now) (map taking_of inputs.now)) }
+        (F.outside files.new) (map line_of jobs.now) (map taking_of inputs.now)) }
 {
     let mut outcomes = Vec::new(alloc);
     let mut totals = no_totals();

@@ -1,13 +1,10 @@
 //! A whole run in one thread.
 
-ghost use Rattle.std.specs.Prelude.{◌≡◌, ◌≤◌, ℕ, [], Ok, All, IfOk, length, map, option_map, string_bytes};
-ghost use Rattle.text_lines.specs.Limits.{longest_text};
-ghost use Rattle.modules_conf.specs.Limits.{IsWithinLimits};
-ghost use Rattle.modules_conf.specs.Modules.{conf_of};
-ghost use Rattle.modules_conf.specs.Bindings.{bindings_of};
+ghost use Rattle.std.specs.Prelude.{◌≡◌, ◌≤◌, ℕ, All, IfOk, length, map, option_map, string_bytes};
+ghost use Rattle.modules_conf.specs.Limits.{AreSound, IsWithinLimits};
 ghost use Rattle.batch_jobs.specs.declared.limits.TheConstants.{MOST_JOBS};
 ghost use Rattle.batch_jobs.specs.Jobs.{HasShortNames, line_of};
-ghost use Rattle.batch_words.specs.Asked.{Single, Source, Texts, Request};
+ghost use Rattle.batch_words.specs.Asked.{Texts};
 ghost use Rattle.batch_runs.specs.Endings.{status_of};
 ghost use Rattle.batch_runs.specs.Runs.{RanFor};
 ghost use Rattle.batch_alone.specs.Stops.{StopsRun, cause_of_stop, line_of_stop};
@@ -20,7 +17,7 @@ use crate::runtime::Runtime;
 use crate::texts::prepare;
 use batch_jobs::Job;
 use batch_runs::{Cause, Stop};
-use modules_conf::{Bindings, Conf, read_bindings, read_modules};
+use modules_conf::{Bindings, Conf};
 use outside::{Files, Sink};
 use std::alloc::{AllocError, Global};
 
@@ -48,7 +45,7 @@ fn stop_cause(stop: Stop) -> Cause
 }
 
 /// Writes the line of a run that wanted memory.
-fn tell_short<O: Sink>(out: &mut O) -> Cause
+pub fn tell_short<O: Sink>(out: &mut O) -> Cause
     ensures { StopsRun (O.written out.old) (O.written out.new) Halt.Memory result }
 {
     let _ = write(out, NO_MEMORY.as_bytes());
@@ -91,17 +88,30 @@ pub fn run_prepared<B: Runtime, F: Files, O: Sink>(
     out: &mut O,
 ) -> Ended<B::Library>
     requires limits { IsWithinLimits aim.conf.now.edges }
+    requires sound { AreSound aim.bindings.now }
     requires few { length aim.jobs.now ≤ MOST_JOBS }
     requires names { All HasShortNames aim.jobs.now }
     ensures status { result.status ≡ status_of result.cause }
     ensures started { IsStarted
-        (record { conf = aim.entry.conf.now; bound = aim.entry.bindings.now; folder = aim.entry.folder.now;
-            pages = aim.entry.pages; jobs = map line_of aim.entry.jobs.now;
-            file = option_map (λ s. s.now) aim.entry.file; sums = aim.entry.sums })
-        (record { files = F.outside files.old; library = B.Library.holdings library;
-            sink = O.written out.old })
-        (record { files = F.outside files.new; library = B.Library.holdings result.library;
-            sink = O.written out.new })
+        (record {
+          conf = aim.entry.conf.now;
+          bound = aim.entry.bindings.now;
+          folder = aim.entry.folder.now;
+          pages = aim.entry.pages;
+          jobs = map line_of aim.entry.jobs.now;
+          file = option_map (λ s. s.now) aim.entry.file;
+          sums = aim.entry.sums;
+        })
+        (record {
+          files = F.outside files.old;
+          library = B.Library.holdings library;
+          sink = O.written out.old;
+        })
+        (record {
+          files = F.outside files.new;
+          library = B.Library.holdings result.library;
+          sink = O.written out.new;
+        })
         result.cause result.journal.items }
 {
     let Aim {
@@ -142,12 +152,22 @@ pub fn run_texts<B: Runtime, F: Files, O: Sink>(
 ) -> Ended<B::Library>
     ensures status { result.status ≡ status_of result.cause }
     ensures ran { (workers : ℕ) → RanFor
-        (record { source = Texts modules.now bindings.now charmaps.now jobs.now; pages = pages;
-            journal = option_map (λ s. s.now) file.entry; workers = workers })
-        (record { files = F.outside files.old; library = B.Library.holdings library;
-            sink = O.written out.old })
-        (record { files = F.outside files.new; library = B.Library.holdings result.library;
-            sink = O.written out.new })
+        (record {
+          source = Texts modules.now bindings.now charmaps.now jobs.now;
+          pages = pages;
+          journal = option_map (λ s. s.now) file.entry;
+          workers = workers;
+        })
+        (record {
+          files = F.outside files.old;
+          library = B.Library.holdings library;
+          sink = O.written out.old;
+        })
+        (record {
+          files = F.outside files.new;
+          library = B.Library.holdings result.library;
+          sink = O.written out.new;
+        })
         result.cause result.journal.items }
 {
     let ready = match prepare(alloc, files, modules, bindings, jobs) {

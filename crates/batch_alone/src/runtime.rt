@@ -18,7 +18,7 @@ pub struct Closed<L> {
 pub trait Runtime {
     ghost use Rattle.std.specs.Prelude.{◌≡◌, ◌≤◌, ◌+◌, ◌*◌, length, IfOk, MatchResult};
     ghost use Rattle.text_lines.specs.Limits.{longest_text};
-    ghost use Rattle.modules_conf.specs.Limits.{IsWithinLimits};
+    ghost use Rattle.modules_conf.specs.Limits.{AreSound, IsWithinLimits};
     ghost use Rattle.batch_jobs.specs.Jobs.{HasShortNames, line_of};
     ghost use Rattle.batch_runs.specs.Takings.{Got};
     ghost use Rattle.batch_alone.specs.Books.{Book, IsNew, Ends};
@@ -40,10 +40,11 @@ pub trait Runtime {
         pages: u32,
         limit: u32,
     ) -> Result<Self, Self::Library>
-        requires { IsWithinLimits conf.now.edges }
+        requires lines { IsWithinLimits conf.now.edges }
+        requires bindings { AreSound bindings.now }
         ensures { MatchResult result
             (λ b. IsNew conf.now bindings.now folder.now pages limit
-                (Self.Library.holdings library) (book b))
+            (Self.Library.holdings library) (book b))
             (λ l. Self.Library.holdings l ≡ Self.Library.holdings library) };
 
     /// Does the work of a job whose input was taken: its pair is opened, the input converted, and the
@@ -60,7 +61,7 @@ pub trait Runtime {
         requires idle { (book self.old).live ≡ 0 }
         ensures done { MatchResult result
             (λ r. Does (book self.old) (book self.new) (line_of job.now) (Got input.now)
-                (work_of r.0 r.1.output.items))
+            (work_of r.0 r.1.output.items))
             (λ _. IsCut (book self.old) (book self.new) (line_of job.now)) }
         ensures room { IfOk result (λ r. length_made (work_of r.0 r.1.output.items)
             ≤ 8 * length input.now + 8) };

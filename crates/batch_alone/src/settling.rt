@@ -65,9 +65,9 @@ pub fn settle<B: Runtime, F: Files>(
     requires fresh { IsFresh (B.book book.old) }
     ensures done { MatchResult result
         (λ r. Settles (B.book book.old) (B.book book.new) (F.outside files.old)
-            (F.outside files.new) (map line_of jobs.now) sums r.text.items r.good)
+        (F.outside files.new) (map line_of jobs.now) sums r.text.items r.good)
         (λ _. HaltsAt (B.book book.old) (B.book book.new) (F.outside files.old)
-            (F.outside files.new) (map line_of jobs.now)) }
+        (F.outside files.new) (map line_of jobs.now)) }
 {
     let Ok(inputs) = take_inputs(alloc, files, jobs) else {
         return Err(AllocError);

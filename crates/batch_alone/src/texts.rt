@@ -4,7 +4,7 @@ ghost use Rattle.std.specs.Prelude.{◌≡◌, ◌≤◌, ◌+◌, ◌∷◌, []
 ghost use Rattle.outside.specs.Faults.{RoseBy};
 ghost use Rattle.modules_conf.specs.Modules.{conf_of};
 ghost use Rattle.modules_conf.specs.Bindings.{bindings_of};
-ghost use Rattle.modules_conf.specs.Limits.{IsWithinLimits};
+ghost use Rattle.modules_conf.specs.Limits.{AreSound, IsWithinLimits};
 ghost use Rattle.batch_jobs.specs.declared.limits.TheConstants.{MOST_JOBS};
 ghost use Rattle.batch_jobs.specs.Jobs.{jobs_of, line_of, HasShortNames};
 ghost use Rattle.batch_runs.specs.Takings.{Got, TakesOne, one_input};
@@ -113,6 +113,7 @@ fn take_modules<F: Files>(alloc: Global, files: &mut F, name: &str) -> Result<Co
 
 /// Reads the bindings text.
 fn take_bindings<F: Files>(alloc: Global, files: &mut F, name: &str) -> Result<Bindings, Halt>
+    ensures sound { IfOk result AreSound }
     ensures read { MatchResult result
         (λ bindings. (x : List ℕ) × Accepts (F.outside files.old).told (record { which = Which.Bindings; name = name.now }) x × (bindings_of x ≡ Ok bindings))
         (λ h. HaltsRead (F.outside files.old).told (record { which = Which.Bindings; name = name.now } ∷ []) h) }
@@ -164,8 +165,9 @@ pub fn prepare<F: Files>(
     ensures read { MatchResult result
         (λ r. IsReady (F.outside files.old).told modules.now bindings.now jobs.now r)
         (λ h. HaltsRead (F.outside files.old).told (record { which = Which.Modules; name = modules.now }
-            ∷ record { which = Which.Bindings; name = bindings.now } ∷ record { which = Which.Jobs; name = jobs.now } ∷ []) h) }
+        ∷ record { which = Which.Bindings; name = bindings.now } ∷ record { which = Which.Jobs; name = jobs.now } ∷ []) h) }
     ensures limits { IfOk result (λ r. IsWithinLimits r.conf.edges) }
+    ensures sound { IfOk result (λ r. AreSound r.bindings) }
     ensures few { IfOk result (λ r. length r.jobs.items ≤ MOST_JOBS) }
     ensures names { IfOk result (λ r. All HasShortNames r.jobs.items) }
     ensures told { (F.outside files.new).told ≡ (F.outside files.old).told }

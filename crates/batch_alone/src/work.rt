@@ -36,7 +36,7 @@ pub fn work<B: Runtime>(
     requires idle { (B.book book.old).live ≡ 0 }
     ensures done { MatchResult result
         (λ r. Does (B.book book.old) (B.book book.new) (line_of job.now) (taking_of input.now)
-            (work_of r.0 r.1.output.items))
+        (work_of r.0 r.1.output.items))
         (λ _. IsCut (B.book book.old) (B.book book.new) (line_of job.now)) }
     ensures room { IfOk result (λ r. length_made (work_of r.0 r.1.output.items)
         ≤ 8 * length_taken (taking_of input.now) + 8) }

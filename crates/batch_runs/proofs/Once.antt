@@ -91,10 +91,9 @@ works_once s (j ∷ js) [] ws h a b = absurd h
 works_once s (j ∷ js) (t ∷ ts) [] h a b = absurd h
 works_once s (j ∷ js) (t ∷ ts) (w ∷ ws) h a b =
     let sum_a : weight tells (call_of_job s j w) + weight tells (calls_of_jobs s js ws) ≡ 0 =
-      sym (weight-append tells (call_of_job s j w) (calls_of_jobs s js ws)) ∙ a in
+    sym (weight-append tells (call_of_job s j w) (calls_of_jobs s js ws)) ∙ a in
     let sum_b : weight fulls (call_of_job s j w) + weight fulls (calls_of_jobs s js ws) ≡ 0 =
-      sym (weight-append fulls (call_of_job s j w) (calls_of_jobs s js ws)) ∙ b in
-    (
+    sym (weight-append fulls (call_of_job s j w) (calls_of_jobs s js ws)) ∙ b in (
       one_work s j t w h.0 (omega (arith, sum_a)) (omega (arith, sum_b)),
       works_once s js ts ws h.1 (omega (arith, sum_a)) (omega (arith, sum_b)),
     )
@@ -169,10 +168,10 @@ runs_once s jobs workers file old new history put b files r is none room =
     let tells_none : weight tells (calls_of_jobs s jobs b.works) ≡ 0 = sym (r.of_jobs.openings tells) ∙ calm _ _ _ r.library none.library in
     let full_none : weight fulls (calls_of_jobs s jobs b.works) ≡ 0 = sym (r.of_jobs.openings fulls) ∙ room history r.of_jobs.orderly.legal in
     let taken : AreTaken (Some files) all_inputs (map (λ (j : JobLine). j.input) jobs) b.inputs =
-      subst (λ (o : Option Shelf). AreTaken o all_inputs (map (λ (j : JobLine). j.input) jobs) b.inputs) is r.done.inputs in
+    subst (λ (o : Option Shelf). AreTaken o all_inputs (map (λ (j : JobLine). j.input) jobs) b.inputs) is r.done.inputs in
     let puts : ArePut (Some files) jobs b.works b.outcomes r.between = subst (λ (o : Option Shelf). ArePut o jobs b.works b.outcomes r.between) is r.done.puts in
     let left : LeftAll (content_of files) jobs b.works b.outcomes r.between =
-      puts_once files (content_of files) jobs b.works b.outcomes r.between (λ n. refl) puts (omega (arith, faults)) in
+    puts_once files (content_of files) jobs b.works b.outcomes r.between (λ n. refl) puts (omega (arith, faults)) in
     go r.between left r.journal (omega (arith, faults)) (inputs_once files all_inputs _ b.inputs taken (calm _ _ _ r.takes none.takes))
     (works_once s jobs b.inputs b.works r.done.works tells_none full_none)
   where
@@ -214,7 +213,7 @@ pub batch_once : (s : Setting) (jobs : List JobLine) (files : Shelf) (b c : Batc
 batch_once s jobs files b c d h k =
     let inputs : b.inputs ≡ c.inputs = h.inputs ∙ sym k.inputs in
     let works : b.works ≡ c.works =
-      all_meanings s d jobs c.inputs b.works c.works (subst (λ (ts : List Taking). AreMeant s jobs ts b.works) inputs h.works) k.works in
+    all_meanings s d jobs c.inputs b.works c.works (subst (λ (ts : List Taking). AreMeant s jobs ts b.works) inputs h.works) k.works in
     let outcomes : b.outcomes ≡ c.outcomes = h.outcomes ∙ ap (map outcome_of) works ∙ sym k.outcomes in
     ap (λ ts. batch_with ts b.works b.outcomes) inputs ∙ ap (λ ws. batch_with c.inputs ws b.outcomes) works
     ∙ ap (λ es. batch_with c.inputs c.works es) outcomes

@@ -14,4 +14,3 @@ placed-append at (e ∷ es) ys =
 pub paired-append : (before between after : Option ℕ) (ps qs : List Placed) → ArePaired before ps between → ArePaired between qs after → ArePaired before (ps ++ qs) after
 paired-append before between after [] qs h k = subst (λ (o : Option ℕ). ArePaired o qs after) h k
 paired-append before between after (p ∷ ps) qs h k = (h.0, h.1, paired-append h.0 between after ps qs h.2 k)
-

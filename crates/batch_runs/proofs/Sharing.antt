@@ -218,12 +218,12 @@ shared_history s n jobs works shares h is = record {
     callers = all_called n h is.callers;
   };
   openings = λ of.
-    parted of n 0 h is.callers
-    ∙ total-same n (λ c. weight of (calls_at (own c (placed_from 0 h)))) (λ c. weight (λ (d : Share). call_weight s of d.job d.work) (shares c))
+      parted of n 0 h is.callers
+      ∙ total-same n (λ c. weight of (calls_at (own c (placed_from 0 h)))) (λ c. weight (λ (d : Share). call_weight s of d.job d.work) (shares c))
       (λ c low high. own_weight s of c (shares c) (own c (placed_from 0 h)) (is.owned c low high))
-    ∙ all_weight (λ (d : Share). call_weight s of d.job d.work) n shares
-    ∙ shares_at (call_weight s of) jobs works (all_shares n shares) is.there
-    ∙ is.each_once (at_place (call_weight s of) jobs works)
-    ∙ drawn_weight s of jobs works;
+      ∙ all_weight (λ (d : Share). call_weight s of d.job d.work) n shares
+      ∙ shares_at (call_weight s of) jobs works (all_shares n shares) is.there
+      ∙ is.each_once (at_place (call_weight s of) jobs works)
+      ∙ drawn_weight s of jobs works;
   in_order = λ none. absurd (let some = is.some in omega (arith, some, none));
 }

@@ -37,7 +37,7 @@ pub record IsSettingOf (conf : Conf) (bindings : List Binding) (folder : Text) (
     (told : Option Shelf) (s : Setting) : Type 0 where
   pub graph : s.first.graph ≡ graph_of conf.edges bindings
   pub names : (text : Text)
-    → caller_name_of s.first.aliases text ≡ caller_name_of (alias_table_of conf) text
+      → caller_name_of s.first.aliases text ≡ caller_name_of (alias_table_of conf) text
   pub source : s.source ≡ record { directory = folder; texts = told }
   pub store : s.pages ≡ pages
 
@@ -99,11 +99,11 @@ pub record Makes (s : Setting) (from to input : Text) (made : Made) : Type 0 whe
   pub leads : Leads s.first.graph source target way
   pub tables : Tables
   pub read : AreTablesOf s.source
-    (flat_map (charmaps_at s.first.graph) (modules_of s.first.graph.edges way.ordinals)) tables
+      (flat_map (charmaps_at s.first.graph) (modules_of s.first.graph.edges way.ordinals)) tables
   pub recipe : Recipe
   pub recipe_is : recipe_for s.first.graph way.ordinals ≡ Some recipe
   pub means : MeansWhole (chain tables recipe) (return_of recipe.writer) initial input
-    (ending made.bytes made.finish (length input))
+      (ending made.bytes made.finish (length input))
 
 -- what a history asked of the library: exactly what its openings ask for, or, where there are
 -- workers, besides that what openings asked for that wanted memory

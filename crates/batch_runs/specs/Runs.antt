@@ -38,7 +38,7 @@ Stands (Texts modules bindings charmaps jobs) pages told _ p = ⊥
 Stands (Single from to input output) pages told texts p = StandsAlone (single_job from to input output) pages told p
 Stands (Generated n) pages told texts p =
     let made = generated n in StandsFor made.modules made.bindings made.jobs made_folder pages
-      (Some made.charmaps) p
+    (Some made.charmaps) p
 
 -- the world in memory over an input that was made; its sink is the run's
 abbrev pub made_world : Input → Written → World

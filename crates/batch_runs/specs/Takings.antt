@@ -66,4 +66,3 @@ AreTaken told left [] (t ∷ ts) = ⊥
 AreTaken told left (n ∷ ns) [] = ⊥
 AreTaken told left (n ∷ ns) (t ∷ ts) =
     TakesOne told (room left) n t × AreTaken told (left - length_taken t) ns ts
-

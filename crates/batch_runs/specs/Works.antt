@@ -64,4 +64,3 @@ AreWorked s [] (t ∷ ts) ws = ⊥
 AreWorked s (j ∷ js) [] ws = ⊥
 AreWorked s (j ∷ js) (t ∷ ts) [] = ⊥
 AreWorked s (j ∷ js) (t ∷ ts) (w ∷ ws) = Works s j t w × AreWorked s js ts ws
-

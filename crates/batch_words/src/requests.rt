@@ -18,7 +18,9 @@ pub enum PlanSource {
         output: String,
     },
     /// The jobs that are made for a number, from 1 to 1,000.
-    Generated { number: u32 },
+    Generated {
+        number: u32,
+    },
 }
 
 /// A run: its jobs, the pages of its store, and the file that its journal is put to, if one is named.

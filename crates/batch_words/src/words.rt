@@ -6,7 +6,9 @@ ghost use Rattle.batch_words.specs.Asked.{Answers, asked, generated_asked, long_
 ghost use Rattle.clap.specs.Words.{first_of, found_of, rows_of};
 
 use crate::command::matched;
-use crate::limits::{LONGEST_NAME, MOST_NUMBER, MOST_PAGES, MOST_WORKERS, USUAL_PAGES, USUAL_WORKERS};
+use crate::limits::{
+    LONGEST_NAME, MOST_NUMBER, MOST_PAGES, MOST_WORKERS, USUAL_PAGES, USUAL_WORKERS,
+};
 use crate::requests::{Plan, PlanSource, Refusal, Words};
 use clap::ArgMatches;
 use std::alloc::Global;

@@ -8,7 +8,7 @@ use Rattle.batch_alone.specs.Readings.{taking_of}
 abbrev pub invariant-jobs : goal.invariant-jobs
 invariant-jobs g l = record {
   taken : AreTaken (g.F.Files.outside l.initial.files).told all_inputs
-    (map (λ j. j.input) (map line_of (take l.job-index l.jobs))) (map taking_of l.list.items);
+      (map (λ j. j.input) (map line_of (take l.job-index l.jobs))) (map taking_of l.list.items);
   left : l.left + read_count (map taking_of l.list.items) ≡ all_inputs;
   told : (g.F.Files.outside l.files).told ≡ (g.F.Files.outside l.initial.files).told;
   puts : (g.F.Files.outside l.files).puts ≡ (g.F.Files.outside l.initial.files).puts;
