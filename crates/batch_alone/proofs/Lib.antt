@@ -1,0 +1,9 @@
+pub mod Entered
+pub mod Asking
+pub mod Snoc
+pub mod Progress
+pub mod OneThread
+pub mod Stopping
+pub mod SettleLemmas
+pub mod Outer
+pub mod Cutting

@@ -1,0 +1,5 @@
+pub mod Weights
+pub mod Pairing
+pub mod Once
+pub mod Complete
+pub mod Sharing

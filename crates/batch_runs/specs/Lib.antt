@@ -1,0 +1,13 @@
+pub mod Meanings
+pub mod Takings
+pub mod Preparing
+pub mod Works
+pub mod Puts
+pub mod Histories
+pub mod Batches
+pub mod Lines
+pub mod Endings
+pub mod Runs
+pub mod Plain
+pub mod Completeness
+pub mod Shares
