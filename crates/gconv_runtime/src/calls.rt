@@ -73,12 +73,12 @@ impl<L: Library> Gconv<L> {
         requires home { length (away_of lead) ≡ 0 }
         ensures journal { result.journal.items ≡ entries_of (lead_front lead) }
         ensures legal { IsHistory (lead_ground self lead) (lead_front lead) }
-        // Each caller's entries are those that it had seen when it was ended, and no other is there.
+        // Each caller's entries are those that it had seen at its end, and no other is there.
         ensures ended { AreEnded (ended_of lead) (lead_front lead) }
         ensures all { EachNumber (HasEnd (ended_of lead)) (lead_front lead) }
         // The journal blames the library at most as often as it failed.
-        ensures blamed { RoseBy (blame (entries_of (lead_front lead))) (lead_ground self lead).faults
-            (L.holdings result.library).faults }
+        ensures blamed { RoseBy (blame (entries_of (lead_front lead)))
+            (lead_ground self lead).faults (L.holdings result.library).faults }
     {
         let Gconv { hall } = self;
         let Lead { lead } = lead;

@@ -73,7 +73,7 @@ live_opens_other b n c p ms l h ne = let e : Act = act c (opens p ms l) in let d
     ((λ i. filter-same (mine n (b ++ e ∷ [])) (mine n b) (openings 0 b) (λ x _. ap (λ (z : Bool). eqb x.caller n && not z) (no_more h.route b h.fair e (λ k. refl) x.number)) i
     ++ cond (ap (λ (z : Bool). z && not (closed (0 + length b) (b ++ e ∷ []))) (ne_eqb c n ne) i) (d ∷ []) []) ∙ append-nil (filter (mine n b) (openings 0 b))))
 
-live_closes_other : (b : Deeds) (n c : ℕ) (d : Desc) (h : IsBalanced b) → IsIn d (openings 0 b) → d.caller ≢ n → live_of n (b ++ act c (closes d.number) ∷ []) ≡ live_of n b
+pub live_closes_other : (b : Deeds) (n c : ℕ) (d : Desc) (h : IsBalanced b) → IsIn d (openings 0 b) → d.caller ≢ n → live_of n (b ++ act c (closes d.number) ∷ []) ≡ live_of n b
 unfolding mine
 live_closes_other b n c d h in_d ne = let e : Act = act c (closes d.number) in
     ap (filter (mine n (b ++ e ∷ []))) (openings-append 0 b (e ∷ []) ∙ append-nil (openings 0 b)) ∙ filter-same (mine n (b ++ e ∷ [])) (mine n b) (openings 0 b)
@@ -181,7 +181,7 @@ absent_answered s b (Good from) (Good to) (Refused why) k = tt
 absent_answered s b (Good from) (Good to) (Opened chain cost loads modules) k =
     let o = k.2 in all_absent b (map loaded_of loads) (absent_among b o.route.modules) (o.absent_is ∙ o.route.missing) (λ m z. absent_not_resident b o.route.modules m z)
 
-absent_next : (s : Setting) (b : List Entry) (c : ℕ) (v : Event) → IsNext s b c v → LoadsAbsent (deeds b) (deed_of v)
+pub absent_next : (s : Setting) (b : List Entry) (c : ℕ) (v : Event) → IsNext s b c v → LoadsAbsent (deeds b) (deed_of v)
 absent_next s b c (Opening from to reply) k = absent_answered s (deeds b) from to reply k
 absent_next s b c (Closing n) k = tt
 
@@ -193,7 +193,7 @@ live_answered b n c (Good from) (Good to) (Refused why) h ne = live_rests b n c 
 live_answered b n c (Good from) (Good to) (Opened chain cost loads modules) h ne =
     live_opens_other b n c (record { generation = 0; from = from; to = to }) modules.value (map loaded_of loads) h ne
 
-live_next : (s : Setting) (b : List Entry) (n c : ℕ) (v : Event) → IsBalanced (deeds b) → c ≢ n → IsNext s b c v → live_of n (deeds b ++ act c (deed_of v) ∷ []) ≡ live_of n (deeds b)
+pub live_next : (s : Setting) (b : List Entry) (n c : ℕ) (v : Event) → IsBalanced (deeds b) → c ≢ n → IsNext s b c v → live_of n (deeds b ++ act c (deed_of v) ∷ []) ≡ live_of n (deeds b)
 live_next s b n c (Opening from to reply) h ne k = live_answered (deeds b) n c from to reply h ne
 live_next s b n c (Closing j) h ne k = subst (λ (z : ℕ). live_of n (deeds b ++ act c (closes z) ∷ []) ≡ live_of n (deeds b)) k.number_is
     (live_closes_other (deeds b) n c k.desc h k.there (λ z. ne (sym k.caller_is ∙ z)))

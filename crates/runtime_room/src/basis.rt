@@ -5,8 +5,8 @@ use names_alias::Aliases;
 use outside::Library;
 use std::marker::Model;
 
-/// The configuration, where charmaps come from, the pages of the store, the limit of the journal, and
-/// the library as it was handed in. No value of it is made.
+/// The configuration, where charmaps come from, the pages of the store, the limit of the journal,
+/// and the library as it was handed in. No value of it is made.
 #[derive(Drop)]
 pub struct Basis<L: Library> {
     graph: Graph,
