@@ -7,4 +7,5 @@ pub mod Sharing
 pub mod Wholes
 pub mod Loading
 pub mod Booking
+pub mod Fresh
 pub mod Opening

@@ -24,13 +24,15 @@ use Rattle.pair_openings.specs.Answers.{Answers, Loses, reply_of}
 use Rattle.pair_openings.specs.Entered.{Leaves, HasBegun, HasRefused, IsNextIn, KeepsLimit, ground_of, entry_of}
 use Rattle.pair_openings.specs.Loading.{Ground}
 use Rattle.pair_openings.specs.declared.begun.Begun.{Begun}
+use Rattle.runtime_histories.proofs.Legality.{length-deeds}
 use Rattle.pair_openings.proofs.Answering.{lost_late}
 use Rattle.pair_openings.proofs.RoomMade.{next_in, ground_same}
 use Rattle.conversion_book.specs.ChainTables.{kept, chain_tables}
 use Rattle.conversion_book.specs.Inside.{IsBook}
 use Rattle.conversion_book.specs.Openings.{Opens, Refuses}
 use Rattle.conversion_book.specs.Preparing.{IsEntered, IsLed, still_kept}
-use Rattle.conversion_book.specs.Runtime.{Held, Runtime, log_of, setting_of}
+use Rattle.conversion_book.specs.Runtime.{Held, Runtime, log_of, setting_of, held_at}
+use Rattle.conversion_book.proofs.Fresh.{found_new}
 use Rattle.conversion_book.proofs.Booking.{IsOpeningOf, opening_of_names, opening_led, deed_opens, deed_rests, book_stays, book_rests, book_opens, tables_are}
 
 module _ (graph : Shape) (keeps : List Loaded) (r : Runtime) (book : IsBook graph keeps r) where
@@ -108,6 +110,10 @@ module _ (graph : Shape) (keeps : List Loaded) (r : Runtime) (book : IsBook grap
           (book_opens graph keeps r book b new entry graph_is pages_is told journal_is next by_names.source by_names.target o.opening by_names.opened
           (deed_opens o.from o.to by_names.source by_names.target (reply_of o.opening) o.opening caller by_names.from_is by_names.to_is)
           is.recipe recipe_is number number_is later later_is)
+
+      -- The new descriptor is found by its number.
+      pub entered_found : held_at number held ≡ Some descriptor
+      entered_found = ap (held_at number) is.held_is ∙ found_new (log_of r) number r.held descriptor book.numbers (number_is ∙ sym (length-deeds r.books.journal)) refl
 
       keeps_are : chain_tables (keeps ++ loads) o.opening.modules ≡ chain_tables (kept r.books.pages (log_of r) ++ loads) o.opening.modules
       keeps_are = ap (λ (z : List Loaded). chain_tables (z ++ loads) o.opening.modules) book.keeps_is

@@ -3,6 +3,7 @@
 use crate::descriptor::{Descriptor, convert_held, drop_held, reset_held};
 use crate::entering::enter;
 use crate::kept::{Kept, keep_resident};
+use crate::lent::{Work, run_held};
 use crate::starting::{Parts, start};
 use crate::whole::convert_whole_held;
 use chain_steps::{Progress, Reset};
@@ -141,6 +142,9 @@ impl<L: Library> Book<L> {
             (asked_of self.old.aliases from.now) (asked_of self.old.aliases to.now)) }
         ensures err { IfErr result (Refuses self.old self.new caller
             (asked_of self.old.aliases from.now) (asked_of self.old.aliases to.now)) }
+        ensures held { IfOk result (IsHeld self.new) }
+        ensures fresh { IfOk result (λ n.
+            IfSome (held_at n self.new.held) (λ h. h.machine.states ≡ initial)) }
         ensures steps { steps.new ≤ steps.old + length self.old.books.graph.edges }
     {
         let begun = match begin(
@@ -198,6 +202,15 @@ impl<L: Library> Book<L> {
             (λ ts m n. IsReset m n output.old output.new result) }
     {
         reset_held(self.held.as_mut_slice(), number, output)
+    }
+
+    /// Lends the converter of a descriptor to a work.
+    pub fn with_held<W: Work>(&mut self, number: u64, work: W) -> W::Answer
+        requires { IsHeld self.old number }
+        ensures { Calls self.old self.new number
+            (λ ts m n. (n.recipe ≡ m.recipe) × W.does work ts m n result) }
+    {
+        run_held(self.held.as_mut_slice(), number, work)
     }
 
     /// Converts a whole input by a descriptor whose conversion hasn't begun. The bytes stand in the

@@ -9,10 +9,12 @@ mod book;
 mod descriptor;
 mod entering;
 mod kept;
+mod lent;
 mod preparing;
 mod shared;
 mod starting;
 mod whole;
 
 pub use book::{Book, Closed, NoMemory};
+pub use lent::Work;
 pub use shared::SharedTables;

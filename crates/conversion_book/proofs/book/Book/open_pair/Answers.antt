@@ -1,4 +1,6 @@
-use Rattle.std.proofs.Common.{◌≡◌, ℕ, List, map, sym, subst, string_bytes, rules}
+use Rattle.std.proofs.Common.{◌≡◌, ℕ, List, Option, map, sym, refl, subst, string_bytes, rules}
+use Rattle.std.specs.Prelude.{IsSome, IfSome}
+use Rattle.chain_steps.specs.Chains.{initial}
 use Rattle.outside.specs.Moments.{Holdings}
 use Rattle.runtime_histories.specs.declared.refusals.Asked.{Asked}
 use Rattle.runtime_histories.specs.declared.refusals.Refusal.TheVariants.{Memory}
@@ -9,8 +11,8 @@ use Rattle.pair_openings.specs.Entered.{HasBegun, HasRefused}
 use Rattle.conversion_book.specs.declared.descriptor.Descriptor.{Descriptor}
 use Rattle.conversion_book.specs.Descriptors.{held_as, kept_as}
 use Rattle.conversion_book.specs.Openings.{Opens, Refuses}
-use Rattle.conversion_book.specs.Runtime.{Runtime}
-use Rattle.conversion_book.proofs.Opening.{begun_next, begun_led, entered_book, entered_opens, lost_refuses, refused_book}
+use Rattle.conversion_book.specs.Runtime.{Held, Runtime}
+use Rattle.conversion_book.proofs.Opening.{begun_next, begun_led, entered_book, entered_found, entered_opens, lost_refuses, refused_book}
 use Rattle.conversion_book.proofs.book.Book.open_pair.Goals as goal
 
 pub invariant_of-self : goal.invariant_of-self
@@ -94,3 +96,29 @@ returns-clause-ok g c =
     subst (λ (z : Runtime). Opens z (record { books = c.enter.new.counts; aliases = i.aliases; directory = string_bytes i.dir; library = new; held = map held_as c.enter.new.held.items }) c.args.caller (asked_of z.aliases c.args.from.now) (asked_of z.aliases c.args.to.now) c.in-Ok-enter.number) c.self.view_is
     (entered_opens i.graph (map kept_as i.kept.items) r c.self.invariant m new from to c.in-Ok.begun begun c.args.caller c.in-Ok-enter.number c.enter.new.counts
     (map kept_as c.enter.new.kept.items) (map held_as c.enter.new.held.items) c.in-Ok-enter.ensures.ok)
+
+pub returns-clause-held : goal.returns-clause-held
+returns-clause-held g c =
+    let i = c.self.inside in
+    let h : Holdings = g.L.Library.holdings i.library in
+    let r : Runtime = record { books = i.counts; aliases = i.aliases; directory = string_bytes i.dir; library = h; held = map held_as i.held.items } in
+    let m : Booked = c.begin.new.counts in
+    let new : Holdings = g.L.Library.holdings c.begin.new.library in
+    let from : Asked = asked_of i.aliases c.args.from.now in
+    let to : Asked = asked_of i.aliases c.args.to.now in
+    let begun : HasBegun r.directory i.counts m h new from to c.in-Ok.begun = subst (λ (d : List ℕ). HasBegun d i.counts m h new from to c.in-Ok.begun) c.as_str.ensures.value c.in-Ok.ensures.ok in
+    subst (λ (o : Option Held). IsSome o) (sym (entered_found i.graph (map kept_as i.kept.items) r c.self.invariant m new from to c.in-Ok.begun begun c.args.caller c.in-Ok-enter.number c.enter.new.counts
+    (map kept_as c.enter.new.kept.items) (map held_as c.enter.new.held.items) c.in-Ok-enter.ensures.ok)) refl
+
+pub returns-clause-fresh : goal.returns-clause-fresh
+returns-clause-fresh g c =
+    let i = c.self.inside in
+    let h : Holdings = g.L.Library.holdings i.library in
+    let r : Runtime = record { books = i.counts; aliases = i.aliases; directory = string_bytes i.dir; library = h; held = map held_as i.held.items } in
+    let m : Booked = c.begin.new.counts in
+    let new : Holdings = g.L.Library.holdings c.begin.new.library in
+    let from : Asked = asked_of i.aliases c.args.from.now in
+    let to : Asked = asked_of i.aliases c.args.to.now in
+    let begun : HasBegun r.directory i.counts m h new from to c.in-Ok.begun = subst (λ (d : List ℕ). HasBegun d i.counts m h new from to c.in-Ok.begun) c.as_str.ensures.value c.in-Ok.ensures.ok in
+    subst (λ (o : Option Held). IfSome o (λ h. h.machine.states ≡ initial)) (sym (entered_found i.graph (map kept_as i.kept.items) r c.self.invariant m new from to c.in-Ok.begun begun c.args.caller c.in-Ok-enter.number c.enter.new.counts
+    (map kept_as c.enter.new.kept.items) (map held_as c.enter.new.held.items) c.in-Ok-enter.ensures.ok)) refl
