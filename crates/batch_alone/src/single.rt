@@ -1,6 +1,6 @@
 //! A run of one job by itself.
 
-ghost use Rattle.std.specs.Prelude.{◌≡◌, ◌≤◌, ◌∷◌, ℕ, [], Ok, None, All, IfOk, length, map};
+ghost use Rattle.std.specs.Prelude.{◌≡◌, ◌≤◌, ◌∷◌, ℕ, [], Ok, All, IfOk, length, map, option_map};
 ghost use Rattle.text_lines.specs.Limits.{longest_text};
 ghost use Rattle.modules_conf.specs.Limits.{AreSound, IsWithinLimits};
 ghost use Rattle.modules_conf.specs.Modules.{conf_of};
@@ -79,7 +79,7 @@ fn single_ready(
     })
 }
 
-/// Does one job by itself: it has an empty configuration, and no file is named for its journal.
+/// Does one job by itself, in the empty configuration.
 pub fn run_single<B: Runtime, F: Files, O: Sink>(
     alloc: Global,
     from: &[u8],
@@ -87,6 +87,7 @@ pub fn run_single<B: Runtime, F: Files, O: Sink>(
     input: &str,
     output: &str,
     pages: u32,
+    file: Option<&str>,
     files: &mut F,
     library: B::Library,
     out: &mut O,
@@ -96,7 +97,7 @@ pub fn run_single<B: Runtime, F: Files, O: Sink>(
     ensures status { result.status ≡ status_of result.cause }
     ensures ran { (workers : ℕ) → RanFor
         (record { source = Single from.now to.now input.now output.now; pages = pages;
-            journal = None; workers = workers })
+            journal = option_map (λ s. s.now) file.entry; workers = workers })
         (record { files = F.outside files.old; library = B.Library.holdings library;
             sink = O.written out.old })
         (record { files = F.outside files.new; library = B.Library.holdings result.library;
@@ -118,7 +119,7 @@ pub fn run_single<B: Runtime, F: Files, O: Sink>(
         folder: "",
         pages,
         jobs: ready.jobs.as_slice(),
-        file: None,
+        file,
         sums: false,
     };
     run_prepared::<B, F, O>(alloc, aim, files, library, out)

@@ -1,4 +1,5 @@
-use Rattle.std.proofs.Common.{◌≡◌, ◌∙◌, List, [], ◌∷◌, None, map, ap, sym, refl}
+use Rattle.std.proofs.Common.{◌≡◌, ◌∙◌, List, [], ◌∷◌, map, ap, sym, refl}
+use Rattle.std.specs.Prelude.{option_map}
 use Rattle.batch_jobs.specs.Jobs.{line_of}
 use Rattle.batch_words.specs.Asked.{Single, Request}
 use Rattle.batch_runs.specs.Batches.{World}
@@ -10,7 +11,7 @@ returns-clause-ran g c = λ workers.
     let q : Request = record {
       source = Single c.args.from.now c.args.to.now c.args.input.now c.args.output.now;
       pages = c.args.pages;
-      journal = None;
+      journal = option_map (λ s. s.now) c.args.file;
       workers = workers;
     } in
     let old : World = record { files = g.F.Files.outside c.args.files.now; library = g.B.Library.Library.holdings c.args.library; sink = g.O.Sink.written c.args.out.now } in
