@@ -18,6 +18,6 @@ mod work;
 
 pub use finish::Ended;
 pub use run::{Aim, run_prepared, run_texts};
-pub use single::run_single;
 pub use runtime::{Closed, Runtime};
+pub use single::run_single;
 pub use work::Worked;

@@ -96,12 +96,22 @@ pub fn run_single<B: Runtime, F: Files, O: Sink>(
     requires to { length to.now ≤ longest_text }
     ensures status { result.status ≡ status_of result.cause }
     ensures ran { (workers : ℕ) → RanFor
-        (record { source = Single from.now to.now input.now output.now; pages = pages;
-            journal = option_map (λ s. s.now) file.entry; workers = workers })
-        (record { files = F.outside files.old; library = B.Library.holdings library;
-            sink = O.written out.old })
-        (record { files = F.outside files.new; library = B.Library.holdings result.library;
-            sink = O.written out.new })
+        (record {
+          source = Single from.now to.now input.now output.now;
+          pages = pages;
+          journal = option_map (λ s. s.now) file.entry;
+          workers = workers;
+        })
+        (record {
+          files = F.outside files.old;
+          library = B.Library.holdings library;
+          sink = O.written out.old;
+        })
+        (record {
+          files = F.outside files.new;
+          library = B.Library.holdings result.library;
+          sink = O.written out.new;
+        })
         result.cause result.journal.items }
 {
     let Ok(ready) = single_ready(alloc, from, to, input, output) else {

@@ -24,8 +24,8 @@ use std::alloc::Global;
 use std::marker::Brand;
 use std::rt::Files;
 use std::sync::ledger::Blank;
-use text_lines::LONGEST_TEXT;
 use std::{env, fs};
+use text_lines::LONGEST_TEXT;
 
 /// A number of the command line, up to a limit.
 fn number(word: &str, most: u32) -> Result<u32>
