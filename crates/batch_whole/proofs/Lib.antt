@@ -1,0 +1,2 @@
+pub mod MadeRuns
+pub mod WordRuns
