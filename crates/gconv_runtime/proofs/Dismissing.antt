@@ -90,7 +90,7 @@ module _ {L : Type 0} {g : Ghosts (Room L) (Desk L) Noted Ground} where
   owns_kept gconv before after d rest same some ends legal unclosed o =
       let pages : ℕ = (ground gconv before).setting.pages in
       let k : Kept pages (number before) d.number (deeds_of (front before)) (deeds_of (front after)) o.desc = subst (λ (z : History Noted). Kept pages (number before) d.number (deeds_of (front before)) (deeds_of z) o.desc) (sym ends)
-          (kept_later (ground gconv before) (number before) d.number (front before) rest o.desc some (subst (IsHistory (ground gconv before)) ends legal) o.live o.found (ap (λ (z : History Noted). closed d.number (deeds_of z)) (sym ends) ∙ unclosed)) in
+      (kept_later (ground gconv before) (number before) d.number (front before) rest o.desc some (subst (IsHistory (ground gconv before)) ends legal) o.live o.found (ap (λ (z : History Noted). closed d.number (deeds_of z)) (sym ends) ∙ unclosed)) in
       let parts = same_parts (places pages (deeds_of (front before))) (places pages (deeds_of (front after))) o.desc.modules k.same in
       record {
         desc = o.desc;
@@ -166,7 +166,7 @@ closing_stands holdings old new log n j e s k is =
     let none : LoadsNone pages (deed_of e.entry.value.event) = subst (λ (v : Entry). LoadsNone pages (deed_of v.event)) (sym is) (λ held. refl) in
     let all = laid_out_next pages old.layouts.items log n e none s.layouts in
     let same : blame (entries_of (log ++ (n, e) ∷ [])) ≡ blame (entries_of log) = ap blame (entries-snoc log n e) ∙ (blame-snoc (entries_of log) e.entry.value
-        ∙ (ap (λ (v : Entry). blame (entries_of log) + blamed_in v.event) is ∙ none_more (blame (entries_of log)))) in
+    ∙ (ap (λ (v : Entry). blame (entries_of log) + blamed_in v.event) is ∙ none_more (blame (entries_of log)))) in
     record {
       journal = k.journal ∙ (ap (λ (z : List Entry). z ++ e.entry.value ∷ []) s.journal ∙ sym (entries-snoc log n e));
       graph = k.books.0 ∙ (s.graph ∙ sym k.graph);
