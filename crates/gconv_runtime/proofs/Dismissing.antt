@@ -1,5 +1,5 @@
 -- What a closing does to what its caller knows and owns.
-use Rattle.std.proofs.Common.{◌≡◌, ◌≢◌, ◌⊎◌, ℕ, ◌+◌, ◌<◌, eqb, Bool, true, false, ◌||◌, List, [], ◌∷◌, ◌++◌, length, map, Some, sym, refl, ap, ◌∙◌, subst, arith, true≢false, ne_eqb, append_assoc}
+use Rattle.std.proofs.Common.{◌≡◌, ◌≢◌, ◌⊎◌, ℕ, ◌+◌, ◌<◌, eqb, Bool, true, false, ◌||◌, List, [], ◌∷◌, ◌++◌, length, map, Some, sym, refl, ap, ◌∙◌, subst, arith, true≢false, ne_eqb}
 use mathlib.Core.Logic.{dite}
 use native.Mathlib.Decide.{ℕ_discrete}
 use Rattle.std.specs.List.{AllByRecursion}
@@ -13,13 +13,12 @@ use Rattle.history_core.specs.declared.tokens.Pass.{Pass}
 use Rattle.outside.specs.Faults.{RoseBy}
 use Rattle.outside.specs.Moments.{Holdings}
 use Rattle.runtime_histories.specs.declared.entries.Entry.{Entry}
-use Rattle.runtime_histories.specs.declared.entries.Event.TheVariants.{Closing}
-use Rattle.runtime_histories.specs.Deeds.{Act, act, closes, Deeds, Desc, openings, closed, names, desc_at, IsIn, IsLive}
+use Rattle.runtime_histories.specs.Deeds.{act, closes, Deeds, Desc, openings, closed, names, desc_at, IsIn, IsLive}
 use Rattle.runtime_histories.specs.Entries.{deed_of, deeds}
 use Rattle.runtime_histories.specs.Legal.{Legal, LegalFrom, Next}
 use Rattle.runtime_histories.specs.PinLaw.{NoneOf}
 use Rattle.runtime_histories.specs.Pins.{live_of}
-use Rattle.runtime_histories.specs.Places.{Placed, places}
+use Rattle.runtime_histories.specs.Places.{places}
 use Rattle.runtime_histories.proofs.Basics.{closed-append}
 use Rattle.runtime_histories.proofs.Legality.{LegalFrom-append, sound_legal}
 use Rattle.page_store.specs.Holdings.{Holding}
@@ -34,12 +33,12 @@ use Rattle.runtime_room.specs.declared.story.Room.{Room}
 use Rattle.runtime_room.proofs.Acts.{entries-snoc, deeds_of-snoc, history_next, covered_entry, LoadsNone, laid_out_next, blame-snoc}
 use Rattle.runtime_room.proofs.Covering.{DeedPut}
 use Rattle.gconv_runtime.specs.Entries.{IsClosing, ClosesOn}
-use Rattle.gconv_runtime.specs.Owning.{Owns, tables_of, tables_by, tables_for, parts_for, ArePinsOf}
+use Rattle.gconv_runtime.specs.Owning.{Owns, tables_by, ArePinsOf}
 use Rattle.gconv_runtime.specs.Tokens.{number, front, ground}
 use Rattle.gconv_runtime.specs.declared.tokens.Gconv.{Gconv}
 use Rattle.gconv_runtime.specs.declared.tokens.Caller.{Caller}
 use Rattle.gconv_runtime.specs.declared.tokens.Descriptor.{Descriptor}
-use Rattle.gconv_runtime.proofs.Keeping.{IsOpen, open_live, live_all, live_less, Kept, kept_open, at_number, found_open, same_parts, same_there}
+use Rattle.gconv_runtime.proofs.Keeping.{open_live, live_all, live_less, Kept, kept_open, at_number, found_open, same_parts, same_there}
 
 none_of : (n : ℕ) (rest : History Noted) → AllByRecursion IsOwn rest → EachNumber (λ m. m ≢ n) rest → NoneOf n (entries_of rest)
 none_of n [] own others = tt

@@ -1,5 +1,5 @@
 -- What a caller owns stays through every entry that doesn't close it.
-use Rattle.std.proofs.Common.{◌≡◌, ◌≢◌, ℕ, zero, suc, ◌+◌, ◌<◌, ◌≤◌, eqb, Bool, true, false, not, ◌&&◌, ◌||◌, cond, List, [], ◌∷◌, ◌++◌, length, map, Option, Some, None, sym, refl, ap, ◌∙◌, subst, arith, inl, inr, ⊎_elim, true≢false, eq-eqb, ne_eqb, append-nil, append_assoc}
+use Rattle.std.proofs.Common.{◌≡◌, ℕ, zero, suc, ◌+◌, ◌<◌, eqb, Bool, true, false, not, ◌&&◌, ◌||◌, cond, List, [], ◌∷◌, ◌++◌, length, map, Option, Some, None, sym, refl, ap, ◌∙◌, subst, arith, inl, inr, ⊎_elim, true≢false, eq-eqb, ne_eqb, append-nil, append_assoc}
 use mathlib.Core.Logic.{dite}
 use native.Mathlib.Decide.{ℕ_discrete}
 use Rattle.std.specs.List.{filter, AllByRecursion}
@@ -12,14 +12,14 @@ use Rattle.runtime_histories.specs.declared.entries.Event.TheVariants.{Opening, 
 use Rattle.runtime_histories.specs.declared.entries.Entry.{Entry}
 use Rattle.runtime_histories.specs.Deeds.{Act, act, Deed, opens, closes, rests, Deeds, Desc, Loaded, opened, openings, closed, desc_at, IsIn, marks}
 use Rattle.runtime_histories.specs.Entries.{deed_of, opening_of, deeds, loaded_of}
-use Rattle.runtime_histories.specs.Legal.{IsAnswered, IsNext, Next, Legal, LegalFrom}
+use Rattle.runtime_histories.specs.Legal.{IsNext, Next, Legal, LegalFrom}
 use Rattle.runtime_histories.specs.PinLaw.{NoneOf}
 use Rattle.runtime_histories.specs.Pins.{live_of}
 use Rattle.runtime_histories.specs.Places.{Placed, among, placed_at, place_loads, place_deed, places}
 use Rattle.runtime_histories.specs.Residence.{resident}
 use Rattle.runtime_histories.specs.Settings.{Setting}
 use Rattle.runtime_histories.specs.Sound.{IsSound}
-use Rattle.runtime_histories.proofs.Basics.{or-false, openings-append, closed-append, In-append, In-filter, filter-same, filter-append, number_range, number_once, pair_found}
+use Rattle.runtime_histories.proofs.Basics.{or-false, openings-append, closed-append, In-filter, filter-same, number_range, number_once, pair_found}
 use Rattle.runtime_histories.proofs.Legality.{deeds-snoc, deeds-append, LegalFrom-append, sound_next, sound_legal}
 use Rattle.runtime_histories.proofs.Pinning.{places-snoc, holds-resident, absent_next, live_next}
 use Rattle.gconv_runtime.specs.Looking.{holds_module, module_among}

@@ -1,5 +1,5 @@
 -- What calls add to the history.
-use Rattle.std.specs.Prelude.{◌≡◌, ℕ, List, [], ◌∷◌, ◌++◌}
+use Rattle.std.specs.Prelude.{◌≡◌, ℕ, [], ◌∷◌, ◌++◌}
 use Rattle.history_core.specs.History.{History, Grows}
 use Rattle.history_core.specs.declared.story.Story.{Ghosts}
 use Rattle.runtime_histories.specs.declared.entries.Event.TheVariants.{Closing}
