@@ -1,1 +1,3 @@
+pub mod Dismissing
+pub mod Keeping
 pub mod Living

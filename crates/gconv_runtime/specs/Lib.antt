@@ -1,4 +1,5 @@
 pub mod Tokens
 pub mod Owning
+pub mod Entries
 pub mod Looking
 pub mod HeldLaws

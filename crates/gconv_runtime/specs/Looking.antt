@@ -174,7 +174,8 @@ among_self : (hs all : List Holding) → ((h : Holding) → Among hs h → Among
 among_self [] all f = tt
 among_self (h ∷ hs) all f = (f h (inl refl), among_self hs all (λ x k. f x (inr k)))
 
-module_among : (ms : List ℕ) → AllByRecursion (λ (m : ℕ). among m ms ≡ true) ms
+-- Each module of a list stands in it.
+pub module_among : (ms : List ℕ) → AllByRecursion (λ (m : ℕ). among m ms ≡ true) ms
 module_among [] = tt
 module_among (m ∷ ms) = (or_left (eqb m m) (among m ms) (eq-eqb m m refl), more ms (module_among ms))
   where

@@ -5,6 +5,7 @@
 #![tactic(auto)]
 
 mod calls;
+mod closing;
 mod converting;
 mod held;
 mod making;
