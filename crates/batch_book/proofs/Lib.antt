@@ -1,0 +1,5 @@
+pub mod Resident
+pub mod Lasting
+pub mod Living
+pub mod Working
+pub mod Starting
