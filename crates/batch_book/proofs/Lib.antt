@@ -2,4 +2,3 @@ pub mod Resident
 pub mod Lasting
 pub mod Living
 pub mod Working
-pub mod Starting

@@ -1,5 +1,5 @@
 -- What the calls of a runtime make of a job.
-use Rattle.std.proofs.Common.{◌≡◌, ◌≢◌, ◌∙◌, ℕ, ◌+◌, ◌*◌, ◌-◌, ◌^◌, ◌≤◌, min, eqb, Bool, true, false, not, cond, List, [], ◌∷◌, ◌++◌, length, map, Option, Some, None, IfSome, IsSome, IsSomeAnd, ap, sym, subst, refl, arith, append_assoc, append-nil, true≢false, eq-eqb}
+use Rattle.std.proofs.Common.{◌≡◌, ◌≢◌, ◌∙◌, ℕ, ◌+◌, ◌*◌, ◌-◌, ◌^◌, ◌≤◌, min, eqb, Bool, true, false, not, cond, List, [], ◌∷◌, ◌++◌, length, map, Option, Some, None, Result, Ok, Err, IfOk, OnErr, IfSome, IsSome, IsSomeAnd, ap, sym, subst, refl, arith, append_assoc, append-nil, true≢false, eq-eqb}
 use Rattle.std.specs.Option.{option_map}
 use Rattle.std.specs.List.{filter, flat_map}
 use Rattle.code_pairs.specs.Tables.{Tables}
@@ -161,7 +161,7 @@ held_alone a b from to n o idle =
 pub held_there : (a b : Runtime) (from to : Asked) (n : ℕ) (o : Opens a b 1 from to n) → a.held ≡ [] → IsHeld b n
 held_there a b from to n o idle =
     let h : Held = new_held a o.answer n (record { recipe = o.recipe; states = initial }) in
-    subst (λ (z : Option Held). IsSome z) (sym (held_now h b.held (held_alone a b from to n o idle))) tt
+    subst (λ (z : Option Held). IsSome z) (sym (held_now h b.held (held_alone a b from to n o idle))) refl
 
 pub held_fresh : (a b : Runtime) (from to : Asked) (n : ℕ) (o : Opens a b 1 from to n) → a.held ≡ [] → IfSome (held_at n b.held) (λ h. h.machine.states ≡ initial)
 held_fresh a b from to n o idle =
@@ -184,6 +184,20 @@ opened_live a b from to n o legal =
     let there = live_after (setting_of a) a.books.journal e (record { generation = 0; from = g.0; to = g.1 }) r.modules (map loaded_of r.loads) legal
       (opens_deed g.0 g.1 r.chain.ordinals r.chain.cost r.loads r.modules from to g.2 g.3) in
     subst (λ (z : ℕ). IsLive (log_of b) 1 z) (sym o.number_is) (subst (λ (j : List Entry). IsLive (deeds j) 1 (length a.books.journal)) (sym o.leaves.enters.journal) there)
+
+pub none_held : (hs : List Held) → length hs ≡ 0 → hs ≡ []
+none_held [] e = refl
+none_held (h ∷ hs) e = absurd (omega (arith, e))
+
+-- a call of a descriptor leaves it live
+still_live : (b c : Runtime) (n : ℕ) (does : Tables → Machine → Machine → Type 0) → Calls b c n does → IsLive (log_of b) 1 n → IsLive (log_of c) 1 n
+still_live b c n does k live = subst (λ (r : Runtime). IsLive (log_of r) 1 n) (sym k.same) live
+
+-- however a conversion ended
+pub live_behind : {T E : Type 0} (r : Result T E) (P : T → Tables → Machine → Machine → Type 0) (Q : Tables → Machine → Machine → Type 0)
+    (b c : Runtime) (n : ℕ) → IfOk r (λ x. Calls b c n (P x)) → OnErr r (Calls b c n Q) → IsLive (log_of b) 1 n → IsLive (log_of c) 1 n
+live_behind (Ok x) P Q b c n h k live = still_live b c n (P x) h live
+live_behind (Err e) P Q b c n h k live = still_live b c n Q k live
 
 -- ---- a job whose pair was opened
 
