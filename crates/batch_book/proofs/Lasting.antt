@@ -165,14 +165,14 @@ behind_readable s d rest at t c =
     let ws = charmaps_at s.first.graph d in
     let front = wanted_by s.first.graph d in
     let same : words_of (front ++ c.before) ≡ ws ++ words_of c.before =
-      words-append front c.before ∙ ap (λ z. z ++ words_of c.before) (words-each d ws) in
+    words-append front c.before ∙ ap (λ z. z ++ words_of c.before) (words-each d ws) in
     record {
       before = front ++ c.before;
       behind = c.behind;
       whole = ap (λ z. front ++ z) c.whole ∙ sym (append_assoc front c.before (at ∷ c.behind));
       tables = t.0 ++ c.tables;
       read = subst (λ (z : List (List ℕ)). AreTablesOf s.source z (t.0 ++ c.tables)) (sym same)
-        (tables-append s.source ws (words_of c.before) t.0 c.tables t.1 c.read);
+          (tables-append s.source ws (words_of c.before) t.0 c.tables t.1 c.read);
     }
 
 comes_behind : (s : Setting) (d : ℕ) (bs ds : List ℕ) (at : Wanted)
@@ -196,7 +196,7 @@ comes_behind s d bs ds at on c = go (stands_in front (wanted s.first.graph bs) c
     }
     go (inr h) =
         let same : words_of c.before ≡ ws ++ words_of h.0 =
-          ap words_of h.1 ∙ words-append front h.0 ∙ ap (λ z. z ++ words_of h.0) (words-each d ws) in
+        ap words_of h.1 ∙ words-append front h.0 ∙ ap (λ z. z ++ words_of h.0) (words-each d ws) in
         let r = tables-split s.source ws (words_of h.0) c.tables (subst (λ (z : List (List ℕ)). AreTablesOf s.source z c.tables) same c.read) in
         behind_readable s d (wanted s.first.graph ds) at (r.0, r.2)
         (on (record { before = h.0; behind = c.behind; whole = h.2; tables = r.1; read = r.3 }))
@@ -226,9 +226,9 @@ stopped_first s log from to m word readable h =
     let at : Wanted = record { «module» = m; charmap = word } in
     let gone : ℕ → Bool = λ k. not (resident (marks log) k) in
     let drops : Drops s (absent_among log ms) (news [] ms) =
-      drops_news s gone (λ k stays. readable k (not_false (resident (marks log) k) stays)) [] [] ms refl (λ x f. refl) in
+    drops_news s gone (λ k stays. readable k (not_false (resident (marks log) k) stays)) [] [] ms refl (λ x f. refl) in
     let all : Drops s (absent_among log ms) (absent_among [] ms) =
-      subst (λ z. Drops s (absent_among log ms) (news [] z)) (sym (all_gone ms)) drops in
+    subst (λ z. Drops s (absent_among log ms) (news [] z)) (sym (all_gone ms)) drops in
     record {
       route = record {
         chain = h.route.chain;
@@ -239,7 +239,7 @@ stopped_first s log from to m word readable h =
         missing = refl;
       };
       comes = comes_to_all s (absent_among log ms) (absent_among [] ms) at all
-        (subst (λ z. ComesTo s.source (wanted s.first.graph z) at) h.route.missing h.comes);
+          (subst (λ z. ComesTo s.source (wanted s.first.graph z) at) h.route.missing h.comes);
     }
 
 refused_first : (s : Setting) (log : Deeds) (from to : List ℕ) (why : Refusal) → AreReadable s log → is_passing why ≡ false

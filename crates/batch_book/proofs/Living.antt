@@ -62,8 +62,8 @@ live_after s j e p ms l legal is =
     let n : ℕ = 0 + length b in
     let number : n ≡ length j = let h = length-deeds j in omega (arith, h) in
     let there : IsIn (new_desc b e.caller p ms) (openings 0 log) =
-      subst (λ (z : List Desc). IsIn (new_desc b e.caller p ms) z) (sym (openings-append 0 b (act e.caller (opens p ms l) ∷ [])))
-      (in_right (new_desc b e.caller p ms) (openings 0 b) (new_desc b e.caller p ms ∷ []) (inl refl)) in
+    subst (λ (z : List Desc). IsIn (new_desc b e.caller p ms) z) (sym (openings-append 0 b (act e.caller (opens p ms l) ∷ [])))
+    (in_right (new_desc b e.caller p ms) (openings 0 b) (new_desc b e.caller p ms ∷ []) (inl refl)) in
     let open_still : closed n log ≡ false = closed-append n b (act e.caller (opens p ms l) ∷ []) ∙ or-false (closed n b) ∙ not_closed s j legal in
     subst (λ (z : Deeds). IsLive z e.caller (length j)) (sym same) (record {
       desc = new_desc b e.caller p ms;

@@ -109,10 +109,10 @@ opened_readable s b c (Good from) (Bad f) reply k h = rests_readable s (deeds b)
 opened_readable s b c (Good from) (Good to) (Refused why) k h = rests_readable s (deeds b) c k
 opened_readable s b c (Good from) (Good to) (Opened chain cost loads modules) k h = λ m e. ⊎_elim
     (λ there. ⊎_elim (k m)
-        (λ gone. loaded_tables s m (map loaded_of loads) h.2.read
-            (ap (among m) h.2.absent_is ∙ ap (among m) h.2.route.missing
-            ∙ absent_there (deeds b) m h.2.route.modules (ap (among m) (sym h.2.modules_is) ∙ there) gone))
-        (cases (resident (marks (deeds b)) m)))
+    (λ gone. loaded_tables s m (map loaded_of loads) h.2.read
+    (ap (among m) h.2.absent_is ∙ ap (among m) h.2.route.missing
+    ∙ absent_there (deeds b) m h.2.route.modules (ap (among m) (sym h.2.modules_is) ∙ there) gone))
+    (cases (resident (marks (deeds b)) m)))
     (k m)
     (resident_opens (deeds b) c _ modules.value (map loaded_of loads) m e)
 

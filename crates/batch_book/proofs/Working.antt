@@ -182,7 +182,7 @@ opened_live a b from to n o legal =
     let e : Entry = entry_of 1 from to (reply_of r) in
     let g = good_names (setting_of a) a.books.graph (log_of a) from to r.chain.ordinals r.chain.cost r.loads r.modules (legal_reply a b 1 from to (reply_of r) o.leaves) in
     let there = live_after (setting_of a) a.books.journal e (record { generation = 0; from = g.0; to = g.1 }) r.modules (map loaded_of r.loads) legal
-      (opens_deed g.0 g.1 r.chain.ordinals r.chain.cost r.loads r.modules from to g.2 g.3) in
+    (opens_deed g.0 g.1 r.chain.ordinals r.chain.cost r.loads r.modules from to g.2 g.3) in
     subst (λ (z : ℕ). IsLive (log_of b) 1 z) (sym o.number_is) (subst (λ (j : List Entry). IsLive (deeds j) 1 (length a.books.journal)) (sym o.leaves.enters.journal) there)
 
 pub none_held : (hs : List Held) → length hs ≡ 0 → hs ≡ []
@@ -203,7 +203,6 @@ live_behind (Err e) P Q b c n h k live = still_live b c n Q k live
 
 module _ (a b c d : Runtime) (job : JobLine) (n : ℕ) (does : Tables → Machine → Machine → Type 0) (idle : a.held ≡ [])
     (o : Opens a b 1 (from_of a job) (to_of a job) n) (k : Calls b c n does) (z : Closes c d 1 n) where
-
   entry : Entry
   entry = opening (setting_of a) 1 job.from job.to (reply_of o.answer)
 
@@ -234,8 +233,8 @@ module _ (a b c d : Runtime) (job : JobLine) (n : ℕ) (does : Tables → Machin
   pub keeps_all : Keeps (book_of a) (book_of d) 0
   keeps_all = record {
     setting = same_setting a d (z.books.0 ∙ ap (λ bs. bs.graph) same_books ∙ o.leaves.enters.graph) (z.books.1 ∙ ap (λ bs. bs.pages) same_books ∙ o.leaves.enters.pages)
-      (z.same.0 ∙ ap (λ (r : Runtime). r.aliases) k.same ∙ o.same.0, z.same.1 ∙ ap (λ (r : Runtime). r.directory) k.same ∙ o.same.1)
-      (ap (λ (l : Holdings). l.told) library_is ∙ o.leaves.replies.asked.told);
+        (z.same.0 ∙ ap (λ (r : Runtime). r.aliases) k.same ∙ o.same.0, z.same.1 ∙ ap (λ (r : Runtime). r.directory) k.same ∙ o.same.1)
+        (ap (λ (l : Holdings). l.told) library_is ∙ o.leaves.replies.asked.told);
     limit = z.books.2 ∙ ap (λ bs. bs.limit) same_books ∙ o.leaves.enters.limit;
     told = ap (λ (l : Holdings). l.told) library_is ∙ o.leaves.replies.asked.told;
     faults = subst (λ (l : Holdings). RoseBy 0 a.library.faults l.faults) (sym library_is) (rose_none a.library.faults b.library.faults o.leaves.replies.asked.count);
@@ -284,7 +283,7 @@ makes a b job n x bytes finish m o w =
     let r = o.answer in
     let s = setting_of a in
     let g = good_names s a.books.graph (log_of a) (from_of a job) (to_of a job) r.chain.ordinals r.chain.cost r.loads r.modules
-      (legal_reply a b 1 (from_of a job) (to_of a job) (reply_of r) o.leaves) in
+    (legal_reply a b 1 (from_of a job) (to_of a job) (reply_of r) o.leaves) in
     let i = g.4 in
     record {
       source = g.0;

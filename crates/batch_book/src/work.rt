@@ -70,7 +70,7 @@ pub fn work_on<L: Library>(
     requires idle { (book_of book.old).live ≡ 0 }
     ensures done { MatchResult result
         (λ r. Does (book_of book.old) (book_of book.new) (line_of job.now) (Got input.now)
-            (work_of r.0 r.1.output.items))
+        (work_of r.0 r.1.output.items))
         (λ _. IsCut (book_of book.old) (book_of book.new) (line_of job.now)) }
     ensures room { IfOk result (λ r. length_made (work_of r.0 r.1.output.items)
         ≤ 8 * length input.now + 8) }
