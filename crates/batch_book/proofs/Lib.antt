@@ -1,0 +1,4 @@
+pub mod Resident
+pub mod Lasting
+pub mod Living
+pub mod Working

@@ -1,0 +1,14 @@
+-- What a batch sees of the runtime of one thread.
+use Rattle.std.specs.Prelude.{length}
+use Rattle.conversion_book.specs.Runtime.{Runtime, setting_of}
+use Rattle.batch_alone.specs.Books.{Book}
+
+-- the setting, the limit, the history, the number of live descriptors, and the library
+abbrev pub book_of : Runtime → Book
+book_of r = record {
+  setting = setting_of r;
+  limit = r.books.limit;
+  journal = r.books.journal;
+  live = length r.held;
+  library = r.library;
+}
