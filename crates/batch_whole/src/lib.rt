@@ -9,10 +9,10 @@ mod alone;
 mod ends;
 mod made;
 mod made_texts;
-mod run;
+mod program;
 mod words;
 
 pub use alone::run_plan;
 pub use ends::{end_memory, end_usage};
-pub use run::run;
+pub use program::run;
 pub use words::run_words;
