@@ -1,16 +1,18 @@
 //! A whole batch: what the words ask for is run, over the files, the library and the sink that are
 //! handed in.
 //!
-//! The runtime of one thread is a parameter here, once over the library that is handed in, and once
-//! over the charmaps of an input that the run makes itself.
+//! The runtime is a parameter of all but `run`, once over the library that is handed in, and once over
+//! the charmaps of an input that the run makes itself.
 #![tactic(auto)]
 
 mod alone;
 mod ends;
 mod made;
 mod made_texts;
+mod program;
 mod words;
 
 pub use alone::run_plan;
 pub use ends::{end_memory, end_usage};
+pub use program::run;
 pub use words::run_words;
