@@ -3,5 +3,3 @@
 
 #[cfg(test)]
 mod boards;
-#[cfg(test)]
-mod caches;
