@@ -1,5 +1,5 @@
 -- The runtime of one thread at a moment, and what is kept of it from job to job.
-use Rattle.std.specs.Prelude.{◌≡◌, ℕ, List, []}
+use Rattle.std.specs.Prelude.{◌≡◌, ◌≤◌, ℕ, ◌+◌, ◌*◌, List, [], length}
 use Rattle.outside.specs.Faults.{RoseBy}
 use Rattle.outside.specs.Moments.{Holdings}
 use Rattle.runtime_histories.specs.declared.entries.Entry.{Entry}
@@ -19,6 +19,10 @@ pub record Book : Type 0 where
   pub journal : List Entry
   pub live : ℕ
   pub library : Holdings
+
+-- the limit of the journal leaves room for the two entries of a job, were each entry still to be closed
+abbrev pub HasPlace : Book → Type 0
+HasPlace book = 2 * length book.journal + 2 ≤ book.limit
 
 -- what no call changes, and that the library's count of faults rises by as many as are told
 pub record Keeps (old new : Book) (told_faults : ℕ) : Type 0 where

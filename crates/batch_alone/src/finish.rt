@@ -1,6 +1,6 @@
 //! The end of a run: its journal is put, and its report written.
 
-ghost use Rattle.std.specs.Prelude.{◌≡◌, ◌≤◌, ◌+◌, ℕ, List, All, IfOk, OnErr, length, map, option_map};
+ghost use Rattle.std.specs.Prelude.{◌≡◌, ◌≤◌, ◌+◌, ◌*◌, ℕ, List, All, IfOk, OnErr, length, map, option_map};
 ghost use Rattle.outside.specs.Faults.{RoseBy};
 ghost use Rattle.outside.specs.Moments.{Written};
 ghost use Rattle.batch_jobs.specs.declared.limits.TheConstants.{MOST_JOBS};
@@ -111,6 +111,7 @@ pub fn run_jobs<B: Runtime, F: Files, O: Sink>(
     requires few { length jobs.now ≤ MOST_JOBS }
     requires names { All HasShortNames jobs.now }
     requires fresh { IsFresh (B.book book) }
+    requires places { 4 * length jobs.now ≤ (B.book book).limit }
     ensures status { result.status ≡ status_of result.cause }
     ensures ended { (workers : ℕ) → EndsBy
         (record {

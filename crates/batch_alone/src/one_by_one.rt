@@ -5,6 +5,7 @@ ghost use Rattle.text_lines.specs.Limits.{longest_text};
 ghost use Rattle.batch_jobs.specs.declared.limits.TheConstants.{MOST_JOBS};
 ghost use Rattle.batch_jobs.specs.Jobs.{HasShortNames, line_of};
 ghost use Rattle.batch_runs.specs.Takings.{length_taken};
+ghost use Rattle.batch_alone.specs.Books.{HasPlace};
 ghost use Rattle.batch_alone.specs.Readings.{taking_of};
 ghost use Rattle.batch_alone.specs.Steps.{AreDone, AreHalted, IsFresh, DoesAndPuts, IsCutBefore};
 
@@ -38,6 +39,7 @@ fn one_job<B: Runtime, F: Files>(
     requires names { HasShortNames job.now }
     requires short { length_taken (taking_of input.now) ≤ longest_text }
     requires idle { (B.book book.old).live ≡ 0 }
+    requires place { HasPlace (B.book book.old) }
     ensures done { MatchResult result
         (λ r. DoesAndPuts (B.book book.old) (B.book book.new) (F.outside files.old)
         (F.outside files.new) (line_of job.now) (taking_of input.now) sums r.0.outcome r.0.totals)
@@ -65,6 +67,7 @@ pub fn do_jobs<B: Runtime, F: Files>(
     requires names { All HasShortNames jobs.now }
     requires short { All (λ i. length_taken (taking_of i) ≤ longest_text) inputs.now }
     requires fresh { IsFresh (B.book book.old) }
+    requires places { 4 * length jobs.now ≤ (B.book book.old).limit }
     ensures done { MatchResult result
         (λ s. AreDone (B.book book.old) (B.book book.new) (F.outside files.old)
         (F.outside files.new) (map line_of jobs.now) (map taking_of inputs.now)

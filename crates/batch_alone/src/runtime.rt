@@ -21,7 +21,7 @@ pub trait Runtime {
     ghost use Rattle.modules_conf.specs.Limits.{AreSound, IsWithinLimits};
     ghost use Rattle.batch_jobs.specs.Jobs.{HasShortNames, line_of};
     ghost use Rattle.batch_runs.specs.Takings.{Got};
-    ghost use Rattle.batch_alone.specs.Books.{Book, IsNew, Ends};
+    ghost use Rattle.batch_alone.specs.Books.{Book, HasPlace, IsNew, Ends};
     ghost use Rattle.batch_alone.specs.Readings.{length_made, work_of};
     ghost use Rattle.batch_alone.specs.Steps.{Does, IsCut};
 
@@ -59,6 +59,7 @@ pub trait Runtime {
         requires names { HasShortNames job.now }
         requires short { length input.now ≤ longest_text }
         requires idle { (book self.old).live ≡ 0 }
+        requires place { HasPlace (book self.old) }
         ensures done { MatchResult result
             (λ r. Does (book self.old) (book self.new) (line_of job.now) (Got input.now)
             (work_of r.0 r.1.output.items))

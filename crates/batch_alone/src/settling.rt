@@ -1,6 +1,6 @@
 //! All of a run's jobs, from its inputs to its report.
 
-ghost use Rattle.std.specs.Prelude.{◌≡◌, ◌≤◌, IfOk, length, map, All, MatchResult};
+ghost use Rattle.std.specs.Prelude.{◌≡◌, ◌≤◌, ◌*◌, IfOk, length, map, All, MatchResult};
 ghost use Rattle.batch_jobs.specs.declared.limits.TheConstants.{MOST_JOBS};
 ghost use Rattle.batch_jobs.specs.Jobs.{HasShortNames, line_of};
 ghost use Rattle.batch_jobs.specs.Reports.{report_of, sum_report_of};
@@ -63,6 +63,7 @@ pub fn settle<B: Runtime, F: Files>(
     requires few { length jobs.now ≤ MOST_JOBS }
     requires names { All HasShortNames jobs.now }
     requires fresh { IsFresh (B.book book.old) }
+    requires places { 4 * length jobs.now ≤ (B.book book.old).limit }
     ensures done { MatchResult result
         (λ r. Settles (B.book book.old) (B.book book.new) (F.outside files.old)
         (F.outside files.new) (map line_of jobs.now) sums r.text.items r.good)

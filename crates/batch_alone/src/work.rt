@@ -4,6 +4,7 @@ ghost use Rattle.std.specs.Prelude.{◌≡◌, ◌≤◌, ◌+◌, ◌*◌, leng
 ghost use Rattle.text_lines.specs.Limits.{longest_text};
 ghost use Rattle.batch_jobs.specs.Jobs.{HasShortNames, line_of};
 ghost use Rattle.batch_runs.specs.Takings.{length_taken};
+ghost use Rattle.batch_alone.specs.Books.{HasPlace};
 ghost use Rattle.batch_alone.specs.Readings.{length_made, taking_of, work_of};
 ghost use Rattle.batch_alone.specs.Steps.{Does, IsCut};
 
@@ -34,6 +35,7 @@ pub fn work<B: Runtime>(
     requires names { HasShortNames job.now }
     requires short { length_taken (taking_of input.now) ≤ longest_text }
     requires idle { (B.book book.old).live ≡ 0 }
+    requires place { HasPlace (B.book book.old) }
     ensures done { MatchResult result
         (λ r. Does (B.book book.old) (B.book book.new) (line_of job.now) (taking_of input.now)
         (work_of r.0 r.1.output.items))

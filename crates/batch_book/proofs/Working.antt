@@ -44,11 +44,11 @@ use Rattle.batch_runs.specs.Takings.{Got}
 use Rattle.batch_runs.specs.Works.{Work, Skipped, Denied, Converted, MayRefuse}
 use Rattle.batch_runs.specs.Histories.{told_faults}
 use Rattle.batch_book.proofs.Lasting.{lasting}
-use Rattle.batch_alone.specs.Books.{Book, Keeps, HasAsked}
-use Rattle.batch_book.specs.Books.{book_of}
+use Rattle.batch_alone.specs.Books.{Book, Keeps, HasAsked, HasPlace}
+use Rattle.batch_book.specs.Books.{book_of, is_full}
 use Rattle.batch_alone.specs.Steps.{Adds, Does, IsCut, Enters, OpensAndCloses}
 use Rattle.batch_alone.proofs.Asking.{asked_on}
-use Rattle.batch_book.proofs.Living.{live_after}
+use Rattle.batch_book.proofs.Living.{live_after, live_few}
 use Rattle.batch_alone.proofs.Progress.{keeps_on}
 
 -- ---- one descriptor
@@ -390,6 +390,21 @@ lost_cut a b job s k held = record {
     keeps = k;
   };
 }
+
+-- A job for whose entries there is place isn't refused for a full journal.
+pub not_full : (a b : Runtime) (job : JobLine) (why : Refusal) → Refuses a b 1 (from_of a job) (to_of a job) why
+    → HasPlace (book_of a) → is_full why ≡ true → ⊥
+not_full a b job (BadName which f) r h e = absurd (true≢false (sym e))
+not_full a b job NoConversion r h e = absurd (true≢false (sym e))
+not_full a b job (LibraryFault m w) r h e = absurd (true≢false (sym e))
+not_full a b job (NoCharmap m w) r h e = absurd (true≢false (sym e))
+not_full a b job (BadCharmap m w f) r h e = absurd (true≢false (sym e))
+not_full a b job (StoreFull n l) r h e = absurd (true≢false (sym e))
+not_full a b job (JournalFull n) r h e =
+    let past = r.refused.0.1 in
+    let few = live_few a.books.journal in
+    absurd (omega (arith, past, few, h))
+not_full a b job Memory r h e = absurd (true≢false (sym e))
 
 pub job_lost : (a b : Runtime) (job : JobLine) (why : Refusal) → Refuses a b 1 (from_of a job) (to_of a job) why → is_entered why ≡ false → IsCut (book_of a) (book_of b) job
 job_lost a b job (BadName which f) r e = absurd (true≢false e)

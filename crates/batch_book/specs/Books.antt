@@ -1,5 +1,7 @@
 -- What a batch sees of the runtime of one thread.
-use Rattle.std.specs.Prelude.{length}
+use Rattle.std.specs.Prelude.{Bool, true, false, length}
+use Rattle.runtime_histories.specs.declared.refusals.Refusal.{Refusal}
+use Rattle.runtime_histories.specs.declared.refusals.Refusal.TheVariants.{JournalFull}
 use Rattle.conversion_book.specs.Runtime.{Runtime, setting_of}
 use Rattle.batch_alone.specs.Books.{Book}
 
@@ -12,3 +14,8 @@ book_of r = record {
   live = length r.held;
   library = r.library;
 }
+
+-- a refusal that says that the journal is full
+abbrev pub is_full : Refusal → Bool
+is_full (JournalFull count) = true
+is_full _ = false

@@ -8,9 +8,10 @@ ghost use Rattle.conversion_book.specs.Openings.{Opens, Refuses};
 ghost use Rattle.batch_jobs.specs.Jobs.{HasShortNames, line_of};
 ghost use Rattle.batch_runs.specs.Meanings.{asked_in, is_entered};
 ghost use Rattle.batch_runs.specs.Takings.{Got};
+ghost use Rattle.batch_alone.specs.Books.{HasPlace};
 ghost use Rattle.batch_alone.specs.Readings.{length_made, work_of};
 ghost use Rattle.batch_alone.specs.Steps.{Does, IsCut};
-ghost use Rattle.batch_book.specs.Books.{book_of};
+ghost use Rattle.batch_book.specs.Books.{book_of, is_full};
 
 use batch_alone::Worked;
 use batch_jobs::Job;
@@ -57,8 +58,17 @@ fn is_entered(why: &Refusal) -> bool
     }
 }
 
-/// Opens the pair of a job, converts the whole input, and closes the pair. A full journal ends the job
-/// as want of memory does.
+/// Whether a refusal says that the journal is full.
+fn is_full(why: &Refusal) -> bool
+    ensures { result ≡ is_full why.now }
+{
+    match why {
+        Refusal::JournalFull { .. } => true,
+        _ => false,
+    }
+}
+
+/// Opens the pair of a job, converts the whole input, and closes the pair.
 pub fn work_on<L: Library>(
     book: &mut Book<L>,
     job: &Job,
@@ -68,6 +78,7 @@ pub fn work_on<L: Library>(
     requires names { HasShortNames job.now }
     requires short { length input.now ≤ longest_text }
     requires idle { (book_of book.old).live ≡ 0 }
+    requires place { HasPlace (book_of book.old) }
     ensures done { MatchResult result
         (λ r. Does (book_of book.old) (book_of book.new) (line_of job.now) (Got input.now)
         (work_of r.0 r.1.output.items))
@@ -85,6 +96,9 @@ pub fn work_on<L: Library>(
             }
         }
         Err(why) => {
+            if is_full(&why) {
+                unreachable!();
+            }
             if is_entered(&why) {
                 Ok((Worked::Denied(why), buffers))
             } else {

@@ -1,10 +1,12 @@
-use Rattle.std.proofs.Common.{rules, ◌≡◌, ◌≤◌, ◌<◌, ◌+◌, ◌*◌, ℕ, List, [], ◌∷◌, ◌++◌, length, take, map, ap, arith, refl}
+use Rattle.std.proofs.Common.{rules, ◌≡◌, ◌≤◌, ◌<◌, ◌+◌, ◌*◌, ℕ, List, [], ◌∷◌, ◌++◌, length, take, map, ap, sym, subst, arith, refl}
+use Rattle.std.proofs.lemmas.List.{length-map, length-take-le}
 use Rattle.batch_jobs.specs.Jobs.{JobLine, line_of}
 use Rattle.batch_alone.specs.declared.totals.Totals.{Totals}
 use Rattle.batch_alone.specs.Readings.{taking_of}
 use Rattle.batch_alone.specs.Steps.{AreDone, AreHalted}
 use Rattle.batch_alone.proofs.Snoc.{take_next_map}
 use Rattle.batch_alone.proofs.Cutting.{err_gives}
+use Rattle.batch_alone.proofs.Entered.{entered_length}
 use Rattle.batch_alone.proofs.Progress.{first_done, next_done, done_with, halted_after, halted_before}
 use Rattle.batch_alone.proofs.one_by_one.do_jobs.Goals as goal
 
@@ -18,6 +20,17 @@ jobs-init g c =
       small = omega (arith, w);
       low = omega (arith, w, v);
     }
+
+pub one_job-requires-clause-place : goal.one_job-requires-clause-place
+one_job-requires-clause-place g c =
+    let P : ℕ → Type 0 = λ n. 2 * length (g.B.Runtime.book c.jobs.book).journal + 2 ≤ n in
+    let few = entered_length (g.B.Runtime.book c.args.book.now).setting 1 0 (take c.jobs.at (map line_of c.args.jobs.now)) c.jobs.invariant.done.works
+    (g.B.Runtime.book c.jobs.book).journal c.jobs.invariant.done.entered in
+    let lines = length-map c.args.jobs.now line_of in
+    let next = c.jobs-test.true in
+    let taken = length-take-le c.jobs.at (map line_of c.args.jobs.now) (omega (arith, lines, next)) in
+    let places = c.requires.places in
+    subst P (sym c.jobs.invariant.done.keeps.limit) (omega (arith, few, taken, lines, next, places))
 
 pub returns-in_err-ending : goal.returns-in_err-ending
 returns-in_err-ending g c = record {

@@ -3,7 +3,7 @@ use Rattle.batch_jobs.specs.Jobs.{JobLine, line_of}
 use Rattle.batch_runs.specs.Meanings.{asked_in, is_entered}
 use Rattle.conversion_book.specs.Calls.{ConvertsWhole}
 use Rattle.conversion_book.specs.Runtime.{setting_of}
-use Rattle.batch_book.proofs.Working.{none_held, live_behind, opened_live, job_converted, cut_both, job_refused, job_lost}
+use Rattle.batch_book.proofs.Working.{none_held, live_behind, opened_live, job_converted, cut_both, job_refused, job_lost, not_full}
 use Rattle.batch_book.proofs.work.work_on.Goals as goal
 
 pub close_desc-requires : goal.close_desc-requires
@@ -36,3 +36,7 @@ pub returns-else-is_entered-clause-done : goal.returns-else-is_entered-clause-do
 returns-else-is_entered-clause-done g c =
     let e : is_entered c.in-Err.why ≡ false = sym c.is_entered.ensures ∙ c.if-is_entered.false in
     job_lost c.args.book.now c.opened.new.book (line_of c.args.job.now) c.in-Err.why c.in-Err.ensures.err e
+
+pub unreachable-requires : goal.unreachable-requires
+unreachable-requires g c =
+    not_full c.args.book.now c.opened.new.book (line_of c.args.job.now) c.in-Err.why c.in-Err.ensures.err c.requires.place (sym c.is_full.ensures ∙ c.if-is_full.true)
