@@ -3,16 +3,18 @@
 
     tools/compare_builds.py OLD NEW [--runs N] [--seed S]
 
-Each run is drawn from the seed alone (1 where none is given): two of the six sets in any spelling of their names, now
-and then a wrong name, and an input: valid text, valid text with some bytes changed, cut off or put in, or bytes of
-any kind, from none to some KiB, at times around a limit of a piece. Both programs convert it in a folder of their own;
-the report, the status and what OUT holds must be the same, the standard error too. It prints how many runs were the
-same and the first one that wasn't, whose input it keeps. The status is 0 where all are the same, 1 where one isn't,
-2 where the words are wrong.
+Each run is drawn from the seed alone (1 where none is given): two of the six sets in any spelling of their names or
+aliases, now and then a name that is refused when the job opens, and an input: valid text, valid text with some bytes
+changed, cut off or put in, or bytes of any kind, from none to some KiB, at times around a limit of a piece. Both
+programs convert it in a folder of their own; the report, the status and what OUT holds must be the same, the standard
+error too. It prints how many runs were the same, with their statuses and how many of each refusal there were, and the
+first one that wasn't, whose input it keeps. The status is 0 where all are the same, 1 where one isn't, 2 where the
+words are wrong.
 """
 import argparse
 import os
 import random
+import re
 import shutil
 import subprocess
 import sys
@@ -20,7 +22,10 @@ import tempfile
 
 SETS = {"ASCII": "ascii", "UTF-8": "utf-8", "UTF-16": "utf-16", "UTF-16LE": "utf-16-le", "UTF-16BE": "utf-16-be",
         "UCS-4": "utf-32-be"}
-WRONG = ["UTF8", "KLINGON", "", "//", "UTF-8//TRANSLIT", "INTERNAL", "UTF-7", "ISO-2022-JP", "A" * 65, "UTF-16XE"]
+ALIASES = {"ASCII": "us-ascii", "UTF-8": "utf8", "UTF-16": "utf16", "UCS-4": "ucs4"}
+# Names that open no job, one or more for each refusal: the report tells it, the status is 1, and OUT stays.
+WRONG = ["KLINGON", "UTF-7", "ISO-2022-JP", "UTF-16XE", "A" * 62, "UTF-8/x/", "utf-8 utf-8",
+         "", "//", "/UTF-8", "!?", "UTF-8//TRANSLIT", "utf-8//x//", "INTERNAL", " internal//", "A" * 63, "A" * 65]
 # Points from each range that some set treats in its own way.
 RANGES = [(0x20, 0x7F), (0, 0x80), (0x80, 0x800), (0x800, 0xD800), (0xE000, 0x10000), (0xFEFF, 0xFF00),
           (0x3040, 0x30FF), (0x4E00, 0x9FFF), (0x10000, 0x110000), (0x1F600, 0x1F650)]
@@ -83,7 +88,8 @@ def broken(draw, made):
 def drawn(draw):
     """The two names and the input of one run."""
     source, target = draw.choice(list(SETS)), draw.choice(list(SETS))
-    names = [draw.choice(WRONG) if draw.random() < 0.01 else spelled(draw, name) for name in (source, target)]
+    names = [draw.choice(WRONG) if draw.random() < 0.01 else
+             spelled(draw, ALIASES.get(name, name) if draw.random() < 0.1 else name) for name in (source, target)]
     size = size_of(draw)
     if draw.random() < 0.1:
         return (*names, bytes(draw.randrange(256) for _ in range(size)))
@@ -111,13 +117,21 @@ def done(program, names, content, folder):
             "files": sorted(os.listdir(folder))}
 
 
+def refusal(report):
+    """The refusal that a report's first line tells, without its numbers; empty where it tells another outcome."""
+    outcome = report.partition(b"\n")[0].partition(b": ")[2].decode("ascii", "replace")
+    if not outcome.startswith(("bad name", "no conversion")):
+        return ""
+    return re.sub(r"( at)? [0-9]+$", "", outcome)
+
+
 def shown(value):
     text = repr(value)
     return text if len(text) <= 200 else f"{text[:200]}.. ({len(value)} bytes)"
 
 
 def compare(old, new, runs, seed):
-    draw, statuses = random.Random(seed), {}
+    draw, statuses, refusals = random.Random(seed), {}, {}
     with tempfile.TemporaryDirectory() as folder:
         sides = [f"{folder}/old", f"{folder}/new"]
         for side in sides:
@@ -134,7 +148,10 @@ def compare(old, new, runs, seed):
                         print(f"  {part}: old {shown(first[part])}, new {shown(second[part])}")
                 return 1
             statuses[first["status"]] = statuses.get(first["status"], 0) + 1
-    told = ", ".join(f"{statuses[it]} with status {it}" for it in sorted(statuses))
+            if refusal(first["report"]):
+                refusals[refusal(first["report"])] = refusals.get(refusal(first["report"]), 0) + 1
+    told = ", ".join([f"{statuses[it]} with status {it}" for it in sorted(statuses)] +
+                     [f"{refusals[it]} '{it}'" for it in sorted(refusals)])
     print(f"{runs} runs the same: {told}")
     return 0
 

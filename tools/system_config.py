@@ -433,5 +433,9 @@ def main():
 if __name__ == "__main__":
     try:
         sys.exit(main())
+    except BrokenPipeError:
+        # nobody reads the rest of what is told; all was written before
+        os.dup2(os.open(os.devnull, os.O_WRONLY), sys.stdout.fileno())
+        sys.exit(0)
     except OSError as fault:
         stop(f"{fault.filename}: {fault.strerror}")
