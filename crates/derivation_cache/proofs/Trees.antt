@@ -13,9 +13,10 @@ use Rattle.std.proofs.lemmas.List.Folds.{find-append}
 use Rattle.std.specs.Option.{option_or}
 use Rattle.std.proofs.lemmas.Slice.Eq.{bytes_eq-Decides}
 use Rattle.derivation_cache.specs.declared.pair.Pair.{Pair}
-use Rattle.std.proofs.lemmas.List.Elements.{All-push}
-use Rattle.derivation_cache.specs.Known.{Known, AllLeast, IsLeastPair, is_of, and_pair}
-use Rattle.derivation_cache.specs.Trees.{names_order, put, IsRising, Serves}
+use Rattle.std.proofs.lemmas.List.Elements.{All-nil, All-push}
+use Rattle.module_graph.specs.Graph.{Shape, IsGraph}
+use Rattle.derivation_cache.specs.Known.{Known, IsLeastPair, is_of, and_pair, none_known}
+use Rattle.derivation_cache.specs.Trees.{names_order, put, IsRising, Serves, Lists}
 use Rattle.derivation_cache.proofs.Finding.{both}
 
 abbrev Names : Type 0
@@ -228,12 +229,16 @@ length-push : (ps : List Pair) (p : Pair) → length (ps ++ p ∷ []) ≡ length
 length-push [] p = omega arith
 length-push (x ∷ ps) p = let h = length-push ps p in omega arith
 
--- what is true of a list with its tree stays true with one pair more
-pub grows : (k : Known) (p : Pair) (now : Known) (before tree : List Pair) (count more : ℕ) → AllLeast k → Serves before k.pairs → count ≡ length k.pairs
-    → IsLeastPair k.graph p → is_some (find (is_of p.from p.to) k.pairs) ≡ false → now ≡ and_pair k p → tree ≡ put p before → more ≡ count + 1
-    → AllLeast now × Serves tree now.pairs × (more ≡ length now.pairs)
-grows k p now before tree count more a s e h n is put_is more_is = subst (λ (x : Known). AllLeast x × Serves tree x.pairs × (more ≡ length x.pairs)) (sym is) (
-  All-push (IsLeastPair k.graph) k.pairs p a h,
-  subst (λ t. Serves t (k.pairs ++ p ∷ [])) (sym put_is) (serves_more p before k.pairs s n),
-  more_is ∙ ap (λ c. c + 1) e ∙ sym (length-push k.pairs p),
-)
+-- what a list keeps is kept with one pair more
+pub grows : (k : Known) (p : Pair) (now : Known) (before tree : List Pair) (count more : ℕ) → Lists k before count
+    → IsLeastPair k.graph p → is_some (find (is_of p.from p.to) k.pairs) ≡ false → now ≡ and_pair k p → tree ≡ put p before → more ≡ count + 1 → Lists now tree more
+grows k p now before tree count more l h n is put_is more_is = subst (λ (x : Known). Lists x tree more) (sym is) (record {
+  graph = l.graph;
+  least = All-push (IsLeastPair k.graph) k.pairs p l.least h;
+  serves = subst (λ t. Serves t (k.pairs ++ p ∷ [])) (sym put_is) (serves_more p before k.pairs l.serves n);
+  counted = more_is ∙ ap (λ c. c + 1) l.counted ∙ sym (length-push k.pairs p);
+})
+
+-- what a list keeps where it has no pair
+pub none_listed : (g : Shape) (k : Known) (count : ℕ) → IsGraph g → k ≡ none_known g → count ≡ 0 → Lists k [] count
+none_listed g k count h is e = subst (λ (x : Known). Lists x [] count) (sym is) (record { graph = h; least = All-nil (IsLeastPair g); serves = serves_none; counted = e })

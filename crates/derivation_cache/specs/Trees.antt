@@ -1,5 +1,5 @@
 -- Pairs in the order of their names, and what was added one after another.
-use Rattle.std.specs.Prelude.{◌≡◌, ℕ, if◌then◌else◌, List, [], ◌∷◌, ◌++◌}
+use Rattle.std.specs.Prelude.{◌≡◌, ℕ, if◌then◌else◌, List, [], ◌∷◌, ◌++◌, length}
 use Rattle.std.specs.List.{find, AllByRecursion}
 use Rattle.std.specs.Arc.{arc_value}
 use Rattle.std.specs.Ordering.{nat_cmp, ordering_then, is_lt}
@@ -11,7 +11,8 @@ use Rattle.derivation_cache.specs.declared.record.Record.{Record}
 use Rattle.derivation_cache.specs.declared.record.Record.TheVariants.{Empty, Then'}
 use Rattle.derivation_cache.specs.declared.tree.Tree.{Tree}
 use Rattle.derivation_cache.specs.declared.tree.Tree.TheVariants.{Leaf, Fork'}
-use Rattle.derivation_cache.specs.Known.{Known, none_known, and_pair, is_of}
+use Rattle.module_graph.specs.Graph.{IsGraph}
+use Rattle.derivation_cache.specs.Known.{Known, none_known, and_pair, is_of, AllLeast}
 
 -- What was added.
 abbrev pub known_of : Record → Known
@@ -41,3 +42,10 @@ put p (q ∷ qs) = if is_lt (names_order p.from p.to q) then p ∷ q ∷ qs else
 pub record Serves (tree pairs : List Pair) : Type 0 where
   pub rising : IsRising tree
   pub same : (from to : List ℕ) → find (is_of from to) tree ≡ find (is_of from to) pairs
+
+-- What a list keeps: it is of a graph, its chains are least, and it has a tree and a count of its pairs.
+pub record Lists (k : Known) (tree : List Pair) (count : ℕ) : Type 0 where
+  pub graph : IsGraph k.graph
+  pub least : AllLeast k
+  pub serves : Serves tree k.pairs
+  pub counted : count ≡ length k.pairs

@@ -9,7 +9,7 @@ pub invariant_of-result : goal.invariant_of-result
 invariant_of-result c =
     let l = arc_value c.self.inside.list in let k = known_of l.record in let n = arc_value c.in_ok-new.field-0 in
     let p = pair_by c.args.from.now c.args.to.now c.args.chain.now in
-    grows k p (known_of n.record) (in_order l.tree) (in_order n.tree) l.count n.count c.self.invariant.0 c.self.invariant.1 c.self.invariant.2
+    grows k p (known_of n.record) (in_order l.tree) (in_order n.tree) l.count n.count c.self.invariant
     (subst (λ (x : Known). IsLeastPair x.graph p) (sym c.self.view_is) c.requires.least)
     (subst (λ (x : Known). is_some (pair_of x p.from p.to) ≡ false) (sym c.self.view_is) c.requires.new)
     (search rules)
