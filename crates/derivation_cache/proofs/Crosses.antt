@@ -7,13 +7,20 @@ use Rattle.derivation_cache.specs.contracts.told.List as list
 use Rattle.derivation_cache.specs.contracts.told.Told as told
 use Rattle.derivation_cache.specs.contracts.view.View as view
 use Rattle.derivation_cache.specs.contracts.cache.Cache as cache
-use Rattle.derivation_cache.proofs.pair.Pair.TheSendSync as pair
+use Rattle.derivation_cache.specs.contracts.record.Record as entries
+use Rattle.derivation_cache.proofs.TreeCrosses.{tree_send, tree_sync}
+
+record_send : IsSend entries.the_field.row
+record_send = search (sendable, crosses) depth 20
+
+record_sync : IsSync entries.the_field.row
+record_sync = search (sendable, crosses) depth 20
 
 list_send : IsSend list.the_row
-list_send = search (sendable, crosses, pair.the_send, pair.the_sync) depth 20
+list_send = search (sendable, crosses, record_send, tree_send) depth 20
 
 list_sync : IsSync list.the_row
-list_sync = search (sendable, crosses, pair.the_send, pair.the_sync) depth 20
+list_sync = search (sendable, crosses, record_sync, tree_sync) depth 20
 
 pub told_send : IsSend told.the_row
 told_send = search (sendable, crosses, list_send, list_sync) depth 20

@@ -1,7 +1,7 @@
 //! The cache, to which chains are added.
 ghost use Rattle.std.specs.Prelude.{◌≡◌, ◌<◌, ◌≤◌, drop, IfOk, IfSome, MatchResult};
 ghost use Rattle.left_right.specs.Sides.{view as seat_view};
-ghost use Rattle.derivation_cache.specs.Known.{none_known, added, pair_by, AllLeast, IsLeastPair};
+ghost use Rattle.derivation_cache.specs.Known.{none_known, added, pair_by, AllLeast, Extends, IsLeastPair};
 ghost use Rattle.derivation_cache.specs.Views.{Publishes};
 
 use crate::rule::{ListWriter, Looks, Notes};
@@ -102,8 +102,10 @@ impl Cache {
         chain: &Chain,
     ) -> Result<(), AllocError>
         requires { IsLeastPair self.old.graph (pair_by from.now to.now chain.now) }
-        ensures { MatchResult result (λ _. self.new ≡ added self.old (pair_by from.now to.now chain.now))
+        ensures added { MatchResult result
+            (λ _. self.new ≡ added self.old (pair_by from.now to.now chain.now))
             (λ _. self.new ≡ self.old) }
+        ensures kept { Extends self.new self.old }
     {
         if self.told.pair(from, to).is_some() {
             return Ok(());
