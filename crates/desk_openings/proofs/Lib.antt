@@ -4,3 +4,7 @@ pub mod Texts
 pub mod Pinned
 pub mod Keeping
 pub mod Begun
+pub mod LiveOnes
+pub mod Answered
+pub mod Entered
+pub mod Lost
