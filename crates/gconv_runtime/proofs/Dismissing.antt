@@ -33,7 +33,8 @@ use Rattle.runtime_room.specs.declared.story.Room.{Room}
 use Rattle.runtime_room.proofs.Acts.{entries-snoc, deeds_of-snoc, history_next, covered_entry, LoadsNone, laid_out_next, blame-snoc}
 use Rattle.runtime_room.proofs.Covering.{DeedPut}
 use Rattle.gconv_runtime.specs.Entries.{IsClosing, ClosesOn}
-use Rattle.gconv_runtime.specs.Owning.{Owns, tables_by, ArePinsOf}
+use Rattle.desk_openings.specs.Parts.{ArePinsOf}
+use Rattle.gconv_runtime.specs.Owning.{Owns, tables_by}
 use Rattle.gconv_runtime.specs.Tokens.{number, front, ground}
 use Rattle.gconv_runtime.specs.declared.tokens.Gconv.{Gconv}
 use Rattle.gconv_runtime.specs.declared.tokens.Caller.{Caller}

@@ -23,7 +23,7 @@ use Rattle.runtime_histories.proofs.Basics.{or-false, openings-append, closed-ap
 use Rattle.runtime_histories.proofs.Legality.{deeds-snoc, deeds-append, LegalFrom-append, sound_next, sound_legal}
 use Rattle.runtime_histories.proofs.Pinning.{places-snoc, holds-resident, absent_next, live_next}
 use Rattle.gconv_runtime.specs.Looking.{holds_module, module_among}
-use Rattle.gconv_runtime.specs.Owning.{place_of, parts_at, parts_for, IsThere, AreThere}
+use Rattle.desk_openings.specs.Parts.{place_of, parts_at, parts_for, IsThere, AreThere}
 
 -- a place among some is that among all, where its module passes
 place_filter : (p : ℕ → Bool) (m : ℕ) (xs : List Placed) → p m ≡ true → place_of (filter (λ (x : Placed). p x.«module») xs) m ≡ place_of xs m

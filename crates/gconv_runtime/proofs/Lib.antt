@@ -1,3 +1,4 @@
 pub mod Dismissing
 pub mod Keeping
 pub mod Living
+pub mod Opened

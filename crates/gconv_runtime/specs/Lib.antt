@@ -1,5 +1,6 @@
 pub mod Tokens
 pub mod Owning
 pub mod Entries
+pub mod Openings
 pub mod Looking
 pub mod HeldLaws

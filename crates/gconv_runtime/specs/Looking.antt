@@ -25,7 +25,8 @@ use Rattle.runtime_room.specs.Grounds.{Ground}
 use Rattle.runtime_room.specs.Rooms.{IsHistory, deeds_of, holdings}
 use Rattle.runtime_room.specs.Held.{ordered_held}
 use Rattle.runtime_room.specs.declared.desk.Noted.{Noted}
-use Rattle.gconv_runtime.specs.Owning.{tables_by, desc_tables, place_of, parts_at, parts_for, ArePinsOf}
+use Rattle.desk_openings.specs.Parts.{place_of, parts_at, parts_for, ArePinsOf}
+use Rattle.gconv_runtime.specs.Owning.{tables_by, desc_tables}
 
 -- the pages of holdings
 abbrev pub pages_in : List Holding → List ℕ

@@ -9,6 +9,7 @@ mod closing;
 mod converting;
 mod held;
 mod making;
+mod opening;
 mod tokens;
 
 pub use held::Held;

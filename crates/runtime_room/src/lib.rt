@@ -11,4 +11,5 @@ mod story;
 
 pub use basis::Basis;
 pub use desk::{Desk, Noted};
+pub use filling::put_modules;
 pub use story::Room;

@@ -1,0 +1,10 @@
+pub mod Lists
+pub mod Residents
+pub mod Texts
+pub mod Pinned
+pub mod Keeping
+pub mod Begun
+pub mod LiveOnes
+pub mod Answered
+pub mod Entered
+pub mod Lost
