@@ -1,8 +1,10 @@
 -- A mask without a bit tells of every lane.
-use Rattle.std.proofs.Common.{◌≡◌, ℕ, ◌+◌, ◌*◌, ◌%◌, ◌^◌, ◌≤◌, Bool, true, false, not, cond, eqb, leb, List, [], ◌∷◌, map, length, replicate, refl, sym, ap, ◌∙◌, arith, w8, eqb-true}
+use Rattle.std.proofs.Common.{◌≡◌, ◌≢◌, ℕ, ◌+◌, ◌*◌, ◌%◌, ◌^◌, ◌≤◌, Bool, true, false, not, cond, eqb, leb, List, [], ◌∷◌, map, length, replicate, refl, sym, ap, ◌∙◌, arith, w8, eqb-true}
 use Rattle.std.proofs.lemmas.List.{length-map}
 use Rattle.std.proofs.lemmas.Bool.{leb-false}
-use Rattle.std.proofs.lemmas.Simd.{tops_compared, zip2_splat_left, mask_l-mod, length-zip2}
+use Rattle.std.specs.List.{AllByRecursion}
+use Rattle.std.proofs.lemmas.Bool.Decides.{nat_tests}
+use Rattle.std.proofs.lemmas.Simd.{bitmask_splat, tops_compared, zip2_splat_left, mask_l-mod, length-zip2}
 use lib.Lanes.{zip2, mask_l, top}
 use Rattle.ascii_lanes.specs.Plain.{ArePlain}
 
@@ -53,3 +55,18 @@ none_differ n few a b long other none =
     ap (λ ms. mask_l ms % 2 ^ 64) (tops_compared w8 differ a b)
     ∙ mask_l-mod (zip2 differ a b) 64 (omega (arith, few, long, length-zip2 differ a b (long ∙ sym other))) in
     same_lanes a b (long ∙ sym other) (sym same ∙ none)
+
+-- `simd_eq` with a byte sets no bit
+pub none_equal : (v : List ℕ) (byte : ℕ) → length v ≡ 16 →
+    mask_l (map (top 7) (zip2 (λ a b. cond (eqb a b) 255 0) v (replicate 16 byte))) % 2 ^ 64 ≡ 0 → AllByRecursion (λ p. p ≢ byte) v
+none_equal v byte long none = others v (sym (bitmask_splat w8 eqb v 16 byte long (omega arith)) ∙ none)
+  where
+    others : (v : List ℕ) → mask_l (map (λ x. eqb x byte) v) ≡ 0 → AllByRecursion (λ p. p ≢ byte) v
+    others [] none = tt
+    others (x ∷ v) none = go (others v) (eqb x byte) refl
+      where
+        go : (mask_l (map (λ x. eqb x byte) v) ≡ 0 → AllByRecursion (λ p. p ≢ byte) v) → (b : Bool) → eqb x byte ≡ b → AllByRecursion (λ p. p ≢ byte) (x ∷ v)
+        go rest true e = absurd (let h : 1 + 2 * mask_l (map (λ x. eqb x byte) v) ≡ 0 = rw e at none in omega arith)
+        go rest false e =
+            let h : 0 + 2 * mask_l (map (λ x. eqb x byte) v) ≡ 0 = rw e at none in
+            (λ same. absurd (let yes1 : eqb x byte ≡ true = grind (arith, nat_tests, same) in let f : false ≡ true = sym e ∙ yes1 in grind arith), rest (omega arith))

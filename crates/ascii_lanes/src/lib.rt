@@ -1,7 +1,8 @@
 //! Sixteen points below 80 hex at once, in one vector of bytes, and how far a text is plain.
 #![tactic(auto)]
 
-ghost use Rattle.std.specs.Prelude.{◌≡◌, ◌+◌, ◌≤◌, ◌++◌, length, take, drop, IsTrue, IfSome};
+ghost use Rattle.std.specs.Prelude.{◌≡◌, ◌≢◌, ◌+◌, ◌≤◌, ◌++◌, length, take, drop, IsTrue, IfSome};
+ghost use Rattle.std.specs.List.{AllByRecursion};
 ghost use Rattle.ascii_lanes.specs.Plain.{ArePlain, low_first, high_first, last_of_four};
 
 mod runs;
@@ -82,6 +83,14 @@ pub fn load_last_of_four(bytes: &[u8]) -> Option<Lanes>
     } else {
         None
     }
+}
+
+/// Whether no point is this one.
+#[inline(always)]
+pub fn lacks(points: u8x16, byte: u8) -> bool
+    ensures { IsTrue result → AllByRecursion (λ p. p ≢ byte) points }
+{
+    points.simd_eq(u8x16::splat(byte)).to_bitmask() == 0
 }
 
 /// Whether each of 16 bytes is below 80 hex.

@@ -3,7 +3,7 @@
 use ascii_lanes::Lanes;
 use code_table::Lookup;
 use step_unicode::{State, Unit, Wrote};
-use wide_lanes::Wide;
+use wide_lanes::{Ends, ReadEnds, Wide};
 
 /// So many bytes are left of the input and of the room where a block is tried: no block takes more, read or
 /// written, and a kernel may look at a few that it leaves.
@@ -30,6 +30,7 @@ pub trait Charset {
     ghost use Rattle.std.specs.Prelude.{◌≡◌, ◌+◌, ◌<◌, ◌≤◌, length, IfSome, MatchOption};
     ghost use Rattle.ascii_lanes.specs.Plain.{ArePlain};
     ghost use Rattle.wide_lanes.specs.Wide.{AreWide};
+    ghost use Rattle.wide_lanes.specs.Ends.{picked};
     ghost use Rattle.code_table.specs.HandsBack.{HandsBack};
     ghost use Rattle.step_unicode.specs.Answers.{IsAnswer, IsWrote};
     ghost use Rattle.chain_steps.specs.declared.recipe.Set.{Set};
@@ -105,6 +106,7 @@ pub trait Charset {
     {
         None
     }
+
     /// The units of eight points below 10000 hex, none a surrogate, at the front of the input, where the
     /// set can tell them at once.
     #[inline(always)]
@@ -139,6 +141,43 @@ pub trait Charset {
         ensures { let ts = T.tables tables.now in MatchOption result (output.new ≡ output.old)
             (λ n. IsBlockPut (IsSpellableIn ts (set self.now)) (spelling_in ts (set self.now))
             state wide.points at output.old output.new n) }
+    {
+        None
+    }
+
+    /// The points below 10000 hex, none a surrogate, whose units end in the first sixteen bytes of the
+    /// input, where the set can tell them at once.
+    #[inline(always)]
+    fn ends<T: Lookup>(&self, tables: &T, state: State, input: &[u8]) -> Option<ReadEnds>
+        requires ready { T.ready tables.now }
+        requires range { IsInRange (T.tables tables.now) (set self.now) }
+        requires state { IsStateIn (set self.now) state }
+        requires some { BLOCK ≤ length input.now }
+        ensures { IfSome result (λ r.
+            IsBlock AreWide (IsUnitOf (T.tables tables.now) (set self.now)) state
+            input.now (picked r.ends.mask r.ends.numbers) r.used) }
+    {
+        None
+    }
+
+    /// Writes such points behind the first `at` bytes of `output`, where the set can write them at once.
+    #[inline(always)]
+    fn put_ends<T: Lookup>(
+        &self,
+        tables: &T,
+        state: State,
+        ends: Ends,
+        output: &mut [u8],
+        at: usize,
+    ) -> Option<usize>
+        requires ready { T.ready tables.now }
+        requires range { IsInRange (T.tables tables.now) (set self.now) }
+        requires state { IsStateIn (set self.now) state }
+        requires wide { AreWide (picked ends.mask ends.numbers) }
+        requires room { at + BLOCK ≤ length output.old }
+        ensures { let ts = T.tables tables.now in MatchOption result (output.new ≡ output.old)
+            (λ n. IsBlockPut (IsSpellableIn ts (set self.now)) (spelling_in ts (set self.now))
+            state (picked ends.mask ends.numbers) at output.old output.new n) }
     {
         None
     }

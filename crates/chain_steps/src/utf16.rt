@@ -7,7 +7,7 @@ use crate::charset::{Block, Charset, WideBlock};
 use ascii_lanes::{Lanes, load_high_first, load_low_first, put_high_first, put_low_first};
 use code_table::Lookup;
 use step_unicode::{State, Unit, Wrote};
-use wide_lanes::Wide;
+use wide_lanes::{Ends, Wide, put_ends_high_first, put_ends_low_first};
 
 /// UTF-16 with a mark.
 #[derive(Clone, Copy)]
@@ -106,6 +106,22 @@ impl Charset for Utf16 {
             State::Plain | State::Roman | State::Kanji => None,
         }
     }
+
+    #[inline(always)]
+    fn put_ends<T: Lookup>(
+        &self,
+        _tables: &T,
+        state: State,
+        ends: Ends,
+        output: &mut [u8],
+        at: usize,
+    ) -> Option<usize> {
+        match state {
+            State::Little => Some(put_ends_low_first(ends, output, at)),
+            State::Big => Some(put_ends_high_first(ends, output, at)),
+            State::Plain | State::Roman | State::Kanji => None,
+        }
+    }
 }
 
 /// UTF-16, low bytes first.
@@ -169,6 +185,18 @@ impl Charset for Utf16Le {
         wide_lanes::put_low_first(wide, output, at);
         Some(16)
     }
+
+    #[inline(always)]
+    fn put_ends<T: Lookup>(
+        &self,
+        _tables: &T,
+        _state: State,
+        ends: Ends,
+        output: &mut [u8],
+        at: usize,
+    ) -> Option<usize> {
+        Some(put_ends_low_first(ends, output, at))
+    }
 }
 
 /// UTF-16, high bytes first.
@@ -231,5 +259,17 @@ impl Charset for Utf16Be {
     ) -> Option<usize> {
         wide_lanes::put_high_first(wide, output, at);
         Some(16)
+    }
+
+    #[inline(always)]
+    fn put_ends<T: Lookup>(
+        &self,
+        _tables: &T,
+        _state: State,
+        ends: Ends,
+        output: &mut [u8],
+        at: usize,
+    ) -> Option<usize> {
+        Some(put_ends_high_first(ends, output, at))
     }
 }

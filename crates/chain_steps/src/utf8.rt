@@ -7,7 +7,7 @@ use crate::charset::{Block, Charset, WideBlock};
 use ascii_lanes::{Lanes, load_plain, put_plain};
 use code_table::Lookup;
 use step_unicode::{State, Unit, Wrote};
-use wide_lanes::{Wide, load_utf8, put_utf8};
+use wide_lanes::{ReadEnds, Wide, load_ends, load_utf8, put_utf8};
 
 /// UTF-8.
 #[derive(Clone, Copy)]
@@ -71,5 +71,11 @@ impl Charset for Utf8 {
         at: usize,
     ) -> Option<usize> {
         Some(put_utf8(wide, output, at))
+    }
+
+    #[inline(always)]
+    fn ends<T: Lookup>(&self, _tables: &T, _state: State, input: &[u8]) -> Option<ReadEnds> {
+        let read = load_ends(input)?;
+        Some(read)
     }
 }

@@ -1,12 +1,10 @@
 -- Vectors that are computed lane by lane from one.
-use Rattle.std.proofs.Common.{◌≡◌, ℕ, zero, suc, ◌+◌, ◌-◌, ◌*◌, ◌/◌, ◌%◌, ◌^◌, ◌≤◌, ◌<◌, Bool, true, false, cond, ltb, List, [], ◌∷◌, ◌++◌, map, length, take, drop, replicate, refl, sym, ap, ◌∙◌, subst, arith, w8, w16, Fits}
-use Rattle.std.specs.Prelude.{nat_lt}
+use Rattle.std.proofs.Common.{◌≡◌, ℕ, zero, suc, ◌+◌, ◌-◌, ◌*◌, ◌/◌, ◌%◌, ◌^◌, ◌≤◌, ◌<◌, Bool, true, false, cond, ltb, List, [], ◌∷◌, ◌++◌, map, length, replicate, refl, sym, ap, ◌∙◌, arith, w8, w16, Fits}
 use Rattle.std.specs.List.{AllByRecursion, flat_map}
 use Rattle.std.proofs.lemmas.Bool.Decides.{nat_tests}
 use Rattle.std.proofs.lemmas.Simd.{tops_compared, zip2_splat, bitmask_splat, length-zip2, length-replicate, map-map, Each2-splat, Each1-all}
 use lib.Lanes.{zip2, mask_l, top, sel_l, Each1, Each2, number_l, digits_l}
-use Rattle.step_unicode.specs.Points.{IsPoint}
-use Rattle.step_unicode.specs.Utf16.{little_bytes, big_bytes}
+use Rattle.step_unicode.specs.Utf16.{little_bytes}
 use Rattle.wide_lanes.specs.Wide.{IsWide, AreWide, low_first, high_first, swapped, in_fours, widened}
 use Rattle.wide_lanes.specs.Words.{by_size, last_byte, front_two, front_three, turns}
 

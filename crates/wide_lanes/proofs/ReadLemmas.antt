@@ -1,11 +1,11 @@
 -- Points read from UTF-8: what the tests of lanes tell.
-use Rattle.std.proofs.Common.{◌≡◌, ℕ, zero, suc, ◌+◌, ◌-◌, ◌*◌, ◌/◌, ◌%◌, ◌^◌, ◌≤◌, ◌<◌, Bool, true, false, not, cond, leb, ltb, eqb, eqb-true, List, [], ◌∷◌, ◌++◌, map, length, take, drop, get_or, replicate, refl, sym, ap, ◌∙◌, subst, arith, inl, inr, w8, w16, append_assoc, length-append}
+use Rattle.std.proofs.Common.{◌≡◌, ℕ, ◌+◌, ◌-◌, ◌*◌, ◌%◌, ◌^◌, ◌≤◌, ◌<◌, Bool, true, false, not, cond, leb, eqb, eqb-true, List, [], ◌∷◌, ◌++◌, map, length, take, drop, get_or, refl, sym, ap, ◌∙◌, subst, arith, inl, inr, append_assoc}
 use Rattle.std.specs.Prelude.{nat_lt}
 use Rattle.std.specs.List.{AllByRecursion, flat_map}
 use Rattle.std.proofs.Math.Seq.{take-add}
 use Rattle.std.proofs.lemmas.Bool.{cases_lt}
 use Rattle.std.proofs.lemmas.Bool.Decides.{nat_tests}
-use Rattle.std.proofs.lemmas.List.{append-nil, drop-drop, drop_at, take-take, take-append-le, length-take-le, length-drop, length-map}
+use Rattle.std.proofs.lemmas.List.{drop-drop, drop_at, take-take, take-append-le, length-take-le, length-drop}
 use Rattle.std.proofs.lemmas.Simd.{tops_compared, mask_l-mod, length-zip2}
 use lib.Lanes.{zip2, mask_l, top, sel_l}
 use mir.Syntax.{Width}
@@ -14,7 +14,7 @@ use Rattle.step_unicode.specs.Utf8.{utf8}
 use Rattle.wide_lanes.specs.Wide.{IsWide, AreWide}
 use Rattle.wide_lanes.specs.Words.{count_of, slot, keep}
 use Rattle.wide_lanes.specs.Read.{shifted, Follow, Shows}
-use Rattle.wide_lanes.proofs.Utf8Lemmas.{IsSlot, slot_of}
+use Rattle.wide_lanes.proofs.Utf8Lemmas.{slot_of}
 
 abbrev pub differ : ℕ → ℕ → Bool
 differ x y = not (eqb x y)

@@ -1,14 +1,13 @@
 -- Points written in UTF-8 one behind the other, four bytes each.
-use Rattle.std.proofs.Common.{◌≡◌, ℕ, zero, suc, ◌+◌, ◌-◌, ◌*◌, ◌/◌, ◌%◌, ◌≤◌, ◌<◌, Bool, true, false, cond, List, [], ◌∷◌, ◌++◌, map, length, take, drop, get_or, refl, sym, ap, ◌∙◌, subst, arith, inl, inr, append_assoc, length-append}
+use Rattle.std.proofs.Common.{◌≡◌, ℕ, zero, suc, ◌+◌, ◌-◌, ◌*◌, ◌/◌, ◌%◌, ◌≤◌, ◌<◌, true, false, List, [], ◌∷◌, ◌++◌, map, length, take, drop, get_or, refl, sym, ap, ◌∙◌, arith, inl, inr, append_assoc, length-append}
 use Rattle.std.specs.Prelude.{nat_lt}
-use Rattle.std.specs.List.{AllByRecursion, flat_map}
+use Rattle.std.specs.List.{flat_map}
 use Rattle.std.proofs.lemmas.Bool.Decides.{nat_tests}
 use Rattle.std.proofs.lemmas.Bool.{cases_lt}
 use Rattle.std.proofs.lemmas.List.{append-nil, drop-drop, take-take, take_at, drop_at, take-append-drop, length-take-le}
 use Rattle.step_unicode.specs.Utf8.{utf8}
-use Rattle.step_unicode.specs.Utf16.{little_bytes}
-use Rattle.wide_lanes.specs.Wide.{IsWide, AreWide}
-use Rattle.wide_lanes.specs.Words.{by_size, count_of, last_byte, front_two, front_three, front, slot}
+use Rattle.wide_lanes.specs.Wide.{AreWide}
+use Rattle.wide_lanes.specs.Words.{count_of, last_byte, front_two, front_three, front, slot}
 
 -- how four bytes begin with a point's, and how many those are
 pub record IsSlot (p : ℕ) : Type 0 where

@@ -1,3 +1,4 @@
 pub mod Wide
 pub mod Words
 pub mod Read
+pub mod Ends

@@ -68,7 +68,7 @@ fn in_turns(first: u16x8, second: u16x8) -> u16x16
 
 /// Sixteen numbers as pairs of bytes, low ones first.
 #[inline(always)]
-fn bytes_of(numbers: u16x16) -> u8x32
+pub fn bytes_of(numbers: u16x16) -> u8x32
     ensures value { result ≡ low_first numbers }
     ensures long { length result ≡ 32 }
 {

@@ -1,4 +1,4 @@
-use Rattle.std.proofs.Common.{◌≡◌, ◌+◌, ◌-◌, ◌<◌, length, drop, arith}
+use Rattle.std.proofs.Common.{◌≡◌, drop, arith}
 use Rattle.std.proofs.lemmas.List.{length-drop}
 use Rattle.ascii_lanes.specs.Runs.{plain_units}
 use Rattle.ascii_lanes.proofs.RunLemmas.{units_end}

@@ -1,4 +1,4 @@
-use Rattle.std.proofs.Common.{◌++◌, ◌∙◌, ap, arith, length-append}
+use Rattle.std.proofs.Common.{◌++◌, arith, length-append}
 use Rattle.std.proofs.lemmas.Simd.{pick_l_whole}
 use Rattle.wide_lanes.proofs.read.join_sixteens.Goals as goal
 

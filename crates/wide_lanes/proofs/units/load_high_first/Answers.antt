@@ -1,4 +1,4 @@
-use Rattle.std.proofs.Common.{◌≡◌, ◌∙◌, sym, ap, take}
+use Rattle.std.proofs.Common.{◌∙◌, sym, ap, take}
 use Rattle.wide_lanes.specs.Wide.{swapped}
 use Rattle.wide_lanes.proofs.LaneLemmas.{swap_low, swap_twice}
 use Rattle.wide_lanes.proofs.units.load_high_first.Goals as goal

@@ -1,4 +1,4 @@
-use Rattle.std.proofs.Common.{◌≡◌, ◌+◌, ◌++◌, ◌∙◌, sym, ap, subst, arith, length, take, drop, ℕ}
+use Rattle.std.proofs.Common.{◌≡◌, ◌+◌, ◌++◌, ◌∙◌, sym, ap, subst, arith, take, drop, ℕ}
 use Rattle.std.specs.List.{flat_map}
 use Rattle.step_unicode.specs.Utf8.{utf8}
 use Rattle.wide_lanes.proofs.Utf8Lemmas.{put_back}
