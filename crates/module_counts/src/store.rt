@@ -101,6 +101,9 @@ pub fn lowest_free(
 ) -> Result<Vec<u32>, AllocError>
     ensures { IfOk result (λ v. v.items ≡ lowest pages (seat_pages (map seat placed.now)) need) }
 {
+    if need == 0 {
+        return Ok(Vec::new(alloc));
+    }
     let mut bits = no_bits(alloc, pages)?;
     set_all(bits.as_mut_slice(), placed);
     lowest_unset(alloc, bits.as_slice(), pages, need)
