@@ -22,6 +22,6 @@ for nodes in 16 64 128; do
     done
     echo "$nodes nodes, $((nodes * (nodes - 1) / 2)) pairs known"
     for kind in alone beside publication; do
-        sed "s/^a //" "$folder/$nodes-$kind" | sort -n -k 2 | head -n 1
+        sort -n -k 2 "$folder/$nodes-$kind" | head -n 1
     done
 done

@@ -5,7 +5,7 @@ ghost use Rattle.derivation_cache.specs.Known.{IsLeastPair};
 use crate::asked::{ring, ring_pairs};
 use crate::beside::look_beside;
 use crate::finding::{find_all, publish, search_all};
-use anyhow::Result;
+use anyhow::{Result, ensure};
 use derivation_cache::{Cache, Pair, View};
 use std::alloc::Global;
 use std::io;
@@ -17,23 +17,18 @@ use std::time::{Clock, Duration, Instant};
 use work_steps::Steps;
 
 /// Writes how many nanoseconds each of so many took.
-fn report<R: Print>(rt: &R, what: &str, took: Duration, count: u64, found: u64) -> io::Result<()> {
+fn report<R: Print>(rt: &R, what: &str, took: Duration, count: u64) -> io::Result<()> {
     let nanos = took.as_nanos();
-    let count = u128::from(count.max(1));
+    let each = u128::from(count.max(1));
     println!(rt;
-        "{what} {}.{:02} ns, {found} of {count} found",
-        nanos / count,
-        nanos % count * 100 / count
+        "{what} {}.{:02} ns, {count} of them",
+        nanos / each,
+        nanos % each * 100 / each
     )
 }
 
 /// Times look-ups of pairs that are published, at least so many, while nobody publishes.
-fn time_alone<R: Clock + Print>(
-    rt: &R,
-    view: &mut View,
-    pairs: &[Pair],
-    looks: u32,
-) -> io::Result<()> {
+fn time_alone<R: Clock + Print>(rt: &R, view: &mut View, pairs: &[Pair], looks: u32) -> Result<()> {
     let mut asked = 0u64;
     let mut found = 0u64;
     let start = Instant::now(rt)?;
@@ -44,7 +39,9 @@ fn time_alone<R: Clock + Print>(
         found = found.wrapping_add(u64::from(find_all(view, pairs)));
         asked = asked.wrapping_add(pairs.len() as u64);
     }
-    report(rt, "alone", start.elapsed(rt)?, asked, found)
+    report(rt, "alone", start.elapsed(rt)?, asked)?;
+    ensure!(found == asked, "a pair wasn't found");
+    Ok(())
 }
 
 /// Times look-ups of pairs that are published while another thread publishes others.
@@ -62,8 +59,9 @@ fn time_beside<R: Threads + Wait + Sync + Clock + Print>(
     let (published, looks) = look_beside(rt, alloc, cache, others, view, pairs);
     let took = start.elapsed(rt)?;
     published?;
-    report(rt, "beside", took, looks.asked, looks.found)?;
-    report(rt, "a publication", took, others.len() as u64, 0)?;
+    report(rt, "beside", took, looks.asked)?;
+    report(rt, "publication", took, others.len() as u64)?;
+    ensure!(looks.found == looks.asked, "a pair wasn't found");
     Ok(())
 }
 
