@@ -1,5 +1,5 @@
 -- What a fork of a tree has in order.
-use Rattle.std.proofs.Common.{◌≡◌, ◌<◌, ◌+◌, suc, arith, length, false, [], List, ℕ, ◌∷◌, ◌++◌, Option, Some, refl, sym, ap, ◌∙◌, subst, find, IfOk, Result, Ok, Err}
+use Rattle.std.proofs.Common.{◌≡◌, ◌<◌, ◌+◌, suc, arith, length, false, [], List, ℕ, ◌∷◌, ◌++◌, Some, sym, ap, ◌∙◌, subst, find, IfOk, Result, Ok, Err}
 use Rattle.std.specs.Arc.{arc_value}
 use Rattle.std.specs.Ordering.{is_lt}
 use Rattle.std.specs.declared.sync.Arc.{Arc}

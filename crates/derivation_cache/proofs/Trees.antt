@@ -1,5 +1,5 @@
 -- Searching and putting in lists in the order of names.
-use Rattle.std.proofs.Common.{◌≡◌, ℕ, ◌+◌, suc, arith, length, Bool, true, false, ◌&&◌, cond, List, [], ◌∷◌, ◌++◌, Option, Some, None, is_some, refl, sym, ap, ◌∙◌, subst, true≢false, option_copied, find}
+use Rattle.std.proofs.Common.{◌≡◌, ℕ, ◌+◌, arith, length, Bool, true, false, ◌&&◌, cond, List, [], ◌∷◌, ◌++◌, Option, Some, None, is_some, refl, sym, ap, ◌∙◌, subst, true≢false, find}
 use Rattle.std.specs.List.{AllByRecursion}
 use Rattle.std.specs.Str.{bytes_eq}
 use Rattle.std.specs.Ordering.{nat_cmp, ordering_then, ordering_reverse, is_lt, is_eq, is_gt, on, then_cmp}

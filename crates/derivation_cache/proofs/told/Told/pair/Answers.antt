@@ -1,4 +1,4 @@
-use Rattle.std.proofs.Common.{ap, sym, ◌∙◌, find, IfSome}
+use Rattle.std.proofs.Common.{ap, ◌∙◌, find, IfSome}
 use Rattle.std.specs.Arc.{arc_value}
 use Rattle.derivation_cache.specs.Known.{is_of}
 use Rattle.derivation_cache.specs.Trees.{known_of, in_order}

@@ -1,4 +1,4 @@
-use Rattle.std.proofs.Common.{ap, sym, subst, rules, ◌∙◌, is_some, false, ◌≡◌}
+use Rattle.std.proofs.Common.{sym, subst, rules, is_some, false, ◌≡◌}
 use Rattle.std.specs.Arc.{arc_value}
 use Rattle.derivation_cache.specs.Known.{Known, IsLeastPair, pair_by, pair_of}
 use Rattle.derivation_cache.specs.Trees.{known_of, in_order}

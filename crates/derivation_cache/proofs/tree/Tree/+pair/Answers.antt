@@ -1,6 +1,6 @@
-use Rattle.std.proofs.Common.{Some, rules, ap, subst, ◌∙◌, sym}
+use Rattle.std.proofs.Common.{Some, ap, ◌∙◌, sym}
 use Rattle.std.specs.Arc.{arc_value}
-use Rattle.derivation_cache.specs.Trees.{names_order, in_order, IsRising}
+use Rattle.derivation_cache.specs.Trees.{names_order}
 use Rattle.derivation_cache.proofs.Forks.{left_rises, right_rises, left_fewer, right_fewer, finds_left, finds_here, finds_right}
 use Rattle.derivation_cache.proofs.tree.Tree.+pair.Goals as goal
 

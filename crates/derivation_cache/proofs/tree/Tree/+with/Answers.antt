@@ -1,6 +1,6 @@
-use Rattle.std.proofs.Common.{rules, ap, sym, ◌∙◌, ◌++◌, ◌∷◌}
+use Rattle.std.proofs.Common.{rules}
 use Rattle.std.specs.Arc.{arc_value}
-use Rattle.derivation_cache.specs.Trees.{in_order, put, IsRising}
+use Rattle.derivation_cache.specs.Trees.{in_order, put}
 use Rattle.derivation_cache.proofs.Forks.{left_rises, right_rises, left_fewer, right_fewer, puts_left, puts_right, forks}
 use Rattle.derivation_cache.proofs.tree.Tree.+with.Goals as goal
 
