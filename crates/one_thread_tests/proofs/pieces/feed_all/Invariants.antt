@@ -1,0 +1,14 @@
+use Rattle.std.proofs.Common.{◌≡◌, ◌≤◌, ◌-◌, length}
+use Rattle.code_table.specs.HandsBack.{HandsBack}
+use Rattle.one_thread_tests.proofs.pieces.feed_all.Given as goal
+
+abbrev pub invariant-loop-at : goal.invariant-loop-at
+invariant-loop-at g l = record {
+  recipe : (g.C.Converter.machine l.converter).recipe ≡ (g.C.Converter.machine l.initial.converter).recipe;
+  back : HandsBack g.C.Converter.tables g.C.Converter.ready g.C.Converter.kept l.initial.converter l.converter;
+  taken : l.session.taken ≤ l.at;
+  within : l.at ≤ length l.input;
+}
+
+abbrev pub decreases-loop-at : goal.decreases-loop-at
+decreases-loop-at g l = length l.input - l.at
