@@ -80,9 +80,9 @@ have-at (j ∷ js) (Missed miss ∷ ts) (o ∷ os) zero d a b in_it is = absurd 
 have-at (j ∷ js) (Got x ∷ ts) (o ∷ os) zero d a b in_it is = (refl, sym (ap (work_in (Got x)) is))
 have-at (j ∷ js) (t ∷ ts) (o ∷ os) (suc place) d a b in_it is = have-at js ts os place d (omega (arith, a)) (omega (arith, b)) in_it is
 
-length-none : (ts : List Taking) → length (no_pieces ts) ≡ length ts
-length-none [] = refl
-length-none (t ∷ ts) = let i = length-none ts in omega (arith, i)
+length-none : (n : ℕ) → length (no_pieces n) ≡ n
+length-none zero = refl
+length-none (suc n) = let i = length-none n in omega (arith, i)
 
 taken-low : (ts : List Taking) (place : ℕ) → is_taken ts place ≡ true → place < length ts
 taken-low [] place h = absurd (cc)
@@ -181,15 +181,15 @@ module _ (s : Setting) (jobs : List JobLine) (inputs : List Taking) where
       each-place (λ (n : ℕ). is_taken inputs n ≡ true) ds
       (pass-all (is_taken inputs) (places_in ds) (sym (h.same_places (λ n. if is_taken inputs n then 0 else 1)) ∙ taken-pass inputs))
 
-  all-stand : (ds : List Piece) → AreAll ds → AllByRecursion (λ (d : Piece). slot_at (filled (no_pieces inputs) ds) d.place ≡ Some d) ds
+  all-stand : (ds : List Piece) → AreAll ds → AllByRecursion (λ (d : Piece). slot_at (filled (no_pieces (length inputs)) ds) d.place ≡ Some d) ds
   all-stand ds h =
-      pieces-stand (no_pieces inputs) ds (λ n. let a = h.same_places (same n) in let b = taken-once inputs n in omega (arith, a, b))
-      (each-map (λ (d : Piece). is_taken inputs d.place ≡ true) (λ (d : Piece). d.place < length (no_pieces inputs)) ds
-      (λ d in_it. let low = taken-low inputs d.place in_it in let long = length-none inputs in omega (arith, low, long)) (all-taken ds h))
+      pieces-stand (no_pieces (length inputs)) ds (λ n. let a = h.same_places (same n) in let b = taken-once inputs n in omega (arith, a, b))
+      (each-map (λ (d : Piece). is_taken inputs d.place ≡ true) (λ (d : Piece). d.place < length (no_pieces (length inputs))) ds
+      (λ d in_it. let low = taken-low inputs d.place in_it in let long = length-none (length inputs) in omega (arith, low, long)) (all-taken ds h))
 
-  all-found : (ds : List Piece) → AreAll ds → (place : ℕ) → is_taken inputs place ≡ true → Found s jobs inputs (filled (no_pieces inputs) ds) place
+  all-found : (ds : List Piece) → AreAll ds → (place : ℕ) → is_taken inputs place ≡ true → Found s jobs inputs (filled (no_pieces (length inputs)) ds) place
   all-found ds h place in_it =
-      let os = filled (no_pieces inputs) ds in
+      let os = filled (no_pieces (length inputs)) ds in
       let e = piece-found (λ (d : Piece). (slot_at os d.place ≡ Some d) × IsAllowed s inputs (share_of jobs d)) place ds
       (let a = h.same_places (same place) in let b = taken-there inputs place in_it in omega (arith, a, b))
       (each-both (λ (d : Piece). slot_at os d.place ≡ Some d) (λ (d : Piece). IsAllowed s inputs (share_of jobs d))
@@ -212,11 +212,11 @@ module _ (s : Setting) (jobs : List JobLine) (inputs : List Taking) where
 
   pub done : (workers : ℕ) (ds : List Stint) (slots : List (Option Piece)) → AreStints ds → some_wanting ds ≡ false → length inputs ≡ length jobs
       → AreNumbered 1 (parts_in ds) → length (parts_in ds) ≡ workers → AreSame (taken_places inputs) (drawn_in ds)
-      → slots ≡ filled (no_pieces inputs) (pieces_in ds)
+      → slots ≡ filled (no_pieces (length inputs)) (pieces_in ds)
       → AreDoneBy s workers jobs inputs (parts_in ds) (works_in inputs slots) × AreHeld inputs slots
   done workers ds slots h calm alike numbered count all is =
       let ps = pieces_in ds in
-      let os = filled (no_pieces inputs) ps in
+      let os = filled (no_pieces (length inputs)) ps in
       let shares = toils-shares ds h calm in
       let passed = pass-all (is_taken inputs) (drawn_in ds) (sym (all (λ n. if is_taken inputs n then 0 else 1)) ∙ taken-pass inputs) in
       let kept : places_in ps ≡ drawn_in ds = sym (pieces-places ps) ∙ ap places_of (sym shares) ∙ toils-places ds h ∙ filter-all (is_taken inputs) (drawn_in ds) passed in
@@ -225,7 +225,7 @@ module _ (s : Setting) (jobs : List JobLine) (inputs : List Taking) where
         same_places = λ of. all of ∙ sym (ap (weight of) kept);
         allowed = subst A shares (toils-allowed ds h calm);
       } in
-      let long : length os ≡ length inputs = length-filled (no_pieces inputs) ps ∙ length-none inputs in
+      let long : length os ≡ length inputs = length-filled (no_pieces (length inputs)) ps ∙ length-none (length inputs) in
       let both = worked-of s jobs inputs os alike long (all-found ps whole) in
       let P : List (Option Piece) → Type 0 = λ qs. AreDoneBy s workers jobs inputs (parts_in ds) (works_in inputs qs) × AreHeld inputs qs in
       let T : List Share → Type 0 = λ es. AreAt jobs (works_in inputs os) es in

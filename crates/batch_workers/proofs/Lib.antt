@@ -6,3 +6,6 @@ pub mod Making
 pub mod Counting
 pub mod Slots
 pub mod Done
+pub mod Whose
+pub mod Boards
+pub mod Together

@@ -1,6 +1,6 @@
 -- Workers together.
 use Rattle.std.specs.Prelude.{◌≡◌, ◌≤◌, ℕ, zero, suc, ◌+◌, Bool, true, false, ◌||◌, List, [], ◌∷◌, ◌++◌, length, map, Option, Some, None}
-use Rattle.job_board.specs.Numbers.{AreSame}
+use Rattle.job_board.specs.Numbers.{AreSame, weight}
 use Rattle.job_board.specs.Drawers.{IsLead, IsSplit, away_from, drawn_by, is_drained, numbers_of}
 use Rattle.job_board.specs.declared.board.Board.{Board}
 use Rattle.job_board.specs.declared.board.Drawer.{Drawer}
@@ -41,10 +41,10 @@ abbrev pub filled : List (Option Piece) → List Piece → List (Option Piece)
 filled slots [] = slots
 filled slots (d ∷ ds) = slot_set (filled slots ds) d.place d
 
--- a slot for each, with nothing in it
-abbrev pub no_pieces : {A : Type 0} → List A → List (Option Piece)
-no_pieces [] = []
-no_pieces (x ∷ xs) = None ∷ no_pieces xs
+-- so many slots with nothing in them
+abbrev pub no_pieces : ℕ → List (Option Piece)
+no_pieces zero = []
+no_pieces (suc n) = None ∷ no_pieces n
 
 -- workers were made so far, whose drawers were split from this one
 pub record HasMade (roll : Roll) (old new : Drawer) (count : ℕ) : Type 0 where
@@ -81,3 +81,8 @@ module _ {C : Type 0} where
   abbrev pub some_drained : List (Worker C) → Bool
   some_drained [] = false
   some_drained (w ∷ ws) = is_drained w.drawer || some_drained ws
+
+-- workers drew some of these numbers, each once, and all of them where one found none left
+pub record Draws (numbers : List ℕ) (ds : List Stint) (drained : Bool) : Type 0 where
+  pub some : (of : ℕ → ℕ) → weight of (drawn_in ds) ≤ weight of numbers
+  pub all : drained ≡ true → AreSame numbers (drawn_in ds)

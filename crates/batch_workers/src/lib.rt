@@ -5,6 +5,7 @@
 mod gate;
 mod piece;
 mod shared;
+mod sharing;
 mod team;
 mod threads;
 mod worker;
