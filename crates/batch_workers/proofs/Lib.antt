@@ -9,3 +9,4 @@ pub mod Done
 pub mod Whose
 pub mod Boards
 pub mod Together
+pub mod Puts

@@ -4,6 +4,8 @@
 
 mod gate;
 mod piece;
+mod putting;
+mod settling;
 mod shared;
 mod sharing;
 mod team;
