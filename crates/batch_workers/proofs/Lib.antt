@@ -10,3 +10,4 @@ pub mod Whose
 pub mod Boards
 pub mod Together
 pub mod Puts
+pub mod Endings

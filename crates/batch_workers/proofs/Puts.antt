@@ -125,3 +125,21 @@ put-whole from to js ts os i es sums t end alike h =
     put-as from to (take i js) js (take i ws) ws es es sums t t h
     (sym (ap (λ k. take k js) end ∙ take-length js))
     (sym (ap (λ k. take k ws) (end ∙ sym alike ∙ sym (length-works ts os)) ∙ take-length ws)) refl refl
+
+pub held-length : (ts : List Taking) (os : List (Option Piece)) → AreHeld ts os → length os ≡ length ts
+held-length [] [] h = refl
+held-length [] (o ∷ os) h = absurd h
+held-length (t ∷ ts) [] h = absurd h
+held-length (t ∷ ts) (o ∷ os) h = let i = held-length ts os h.1 in omega (arith, i)
+
+-- all that was put is some
+pub all-put : (from to : Outside) (js : List JobLine) (ws : List Work) (es : List Outcome) (sums : Bool) (t : Totals) → ArePutAll from to js ws es sums t → ArePutSome from to js ws
+all-put from to js ws es sums t h =
+    let J : List JobLine → Type 0 = λ xs. ArePut from.told xs (take (length js) ws) es to.told in
+    let W : List Work → Type 0 = λ xs. ArePut from.told js xs es to.told in
+    let long : length ws ≡ length js = put-lengths from.told to.told js ws es h.puts ∙ put-outcomes from.told to.told js ws es h.puts in
+    record {
+      done = length js;
+      outcomes = es;
+      puts = subst J (sym (take-length js)) (subst W (sym (ap (λ k. take k ws) (sym long) ∙ take-length ws)) h.puts);
+    }

@@ -101,7 +101,7 @@ by-all : (of : Share → ℕ) (ts : List Toil) → AreNumbered 1 (callers_of ts)
 by-all of ts a = sym (all_weight of (length (callers_of ts)) (shares_by ts)) ∙ by-total of (length (callers_of ts)) 1 ts a (omega arith) (omega arith)
 
 module _ {A : Type 0} where
-  weight-map : {B : Type 0} (of : B → ℕ) (f : A → B) (xs : List A) → weight of (map f xs) ≡ weight (λ (x : A). of (f x)) xs
+  pub weight-map : {B : Type 0} (of : B → ℕ) (f : A → B) (xs : List A) → weight of (map f xs) ≡ weight (λ (x : A). of (f x)) xs
   weight-map of f [] = refl
   weight-map of f (x ∷ xs) = ap (λ a. of (f x) + a) (weight-map of f xs)
 

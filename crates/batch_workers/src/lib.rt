@@ -2,6 +2,7 @@
 //! of its own, over one runtime, and the asking thread puts what they made in the order of the jobs.
 #![tactic(auto)]
 
+mod finish;
 mod gate;
 mod piece;
 mod putting;
