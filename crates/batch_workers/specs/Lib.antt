@@ -1,0 +1,5 @@
+pub mod Parts
+pub mod Toils
+pub mod Stints
+pub mod Teams
+pub mod Settling
