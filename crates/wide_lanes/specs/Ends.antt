@@ -44,8 +44,8 @@ is_wrong w =
 abbrev pub ends : Window → Bool
 ends w = is_in 0 0x80 w.here || (is_in 0xC2 0x1E w.one || is_in 0xE0 0x10 w.two)
 
--- what the unit that ends there gives, in three parts: of six bits from the byte, or of seven, of six from the one before,
--- and of four from the one before that
+-- what the unit that ends there gives, in three parts: six bits of the byte, or seven, six of the one before,
+-- and four of the one before that
 abbrev pub low_part : Window → ℕ
 low_part w = (w.here + (256 - (if is_in 0x80 0x40 w.here then 0x80 else 0))) % 256
 
@@ -65,7 +65,8 @@ picked mask (p ∷ q) = if nat_eq (mask % 2) 1 then p ∷ picked (mask / 2) q el
 
 -- the same of pairs of bytes
 abbrev pub picked_pairs : ℕ → List ℕ → List ℕ
-picked_pairs mask (a ∷ b ∷ bytes) = if nat_eq (mask % 2) 1 then a ∷ b ∷ picked_pairs (mask / 2) bytes else picked_pairs (mask / 2) bytes
+picked_pairs mask (a ∷ b ∷ bytes) =
+    if nat_eq (mask % 2) 1 then a ∷ b ∷ picked_pairs (mask / 2) bytes else picked_pairs (mask / 2) bytes
 picked_pairs mask _ = []
 
 -- how many of sixteen bytes are whole units, by the last two of them

@@ -6,7 +6,8 @@ ghost use Rattle.std.specs.Simd.Lanes.{mask_l};
 ghost use Rattle.std.specs.List.{flat_map};
 ghost use Rattle.step_unicode.specs.Utf8.{utf8};
 ghost use Rattle.wide_lanes.specs.Wide.{AreWide};
-ghost use Rattle.wide_lanes.specs.Ends.{Window, AreBytes, is_in, flag, goes_on, is_wrong, ends, point_at, picked, whole_of};
+ghost use Rattle.wide_lanes.specs.Ends.{Window, AreBytes, is_in, flag, goes_on, is_wrong, ends};
+ghost use Rattle.wide_lanes.specs.Ends.{point_at, picked, whole_of};
 
 use std::simd::prelude::*;
 
