@@ -15,8 +15,8 @@ const ROOM: usize = 176;
 /// A unit that is read, and its point as it is written.
 type Unit = (&'static [u8], &'static [u8]);
 
-/// Whether a call with some room of an output of AA bytes converts what fits of the units, and leaves the
-/// bytes behind as they were.
+/// Whether a call with some room of an output of AA bytes ends there, for that reason, and leaves the bytes
+/// behind as they were.
 fn converts(
     alloc: Global,
     pair: (Uni, Uni),
@@ -24,6 +24,7 @@ fn converts(
     want: &[u8],
     room: usize,
     ends: (usize, usize),
+    verdict: Verdict,
 ) -> bool
     requires { room ≤ 176 }
 {
@@ -37,11 +38,6 @@ fn converts(
     });
     let mut output = [0xAA; ROOM];
     let progress = runner.convert(&mut none, input, &mut output[..room]);
-    let verdict = if ends.0 == input.len() {
-        Verdict::Done
-    } else {
-        Verdict::Full
-    };
     let told = progress
         == Progress {
             consumed: ends.0,
@@ -80,8 +76,57 @@ fn tries(alloc: Global, pair: (Uni, Uni), usual: Unit, other: Unit) -> Result<bo
                     end = *next;
                 }
             }
-            all = all && converts(alloc, pair, input.as_slice(), want.as_slice(), room, end);
+            let verdict = if end.0 == input.len() {
+                Verdict::Done
+            } else {
+                Verdict::Full
+            };
+            all = all
+                && converts(
+                    alloc,
+                    pair,
+                    input.as_slice(),
+                    want.as_slice(),
+                    room,
+                    end,
+                    verdict,
+                );
         }
+    }
+    Ok(all)
+}
+
+/// Tries forty units with bytes among them, at each place, that are none and begin none.
+fn tries_wrong(
+    alloc: Global,
+    pair: (Uni, Uni),
+    usual: Unit,
+    wrong: &'static [u8],
+) -> Result<bool, Fail> {
+    let mut all = true;
+    for place in 0..41usize {
+        let mut input = Vec::new(alloc);
+        let mut want = Vec::new(alloc);
+        let mut end = (0, 0);
+        for unit in 0..41usize {
+            if unit == place {
+                end = (input.len(), want.len());
+                input.extend_from_slice(wrong)?;
+            } else {
+                input.extend_from_slice(usual.0)?;
+                want.extend_from_slice(usual.1)?;
+            }
+        }
+        all = all
+            && converts(
+                alloc,
+                pair,
+                input.as_slice(),
+                want.as_slice(),
+                ROOM,
+                end,
+                Verdict::Illegal,
+            );
     }
     Ok(all)
 }
@@ -116,5 +161,45 @@ fn blocks_end_at_each_place(rt: HostRuntime) -> Result<(), Fail> {
             (b"\xC3\xA9", b"\0\0\0\xE9")
         )?
     );
+    Ok(())
+}
+
+#[test]
+fn units_of_utf8_end_at_each_place(rt: HostRuntime) -> Result<(), Fail> {
+    let alloc = rt.alloc();
+    let pair = (Uni::Utf8, Uni::Utf16Le);
+    let letter: Unit = (b"A", b"A\0");
+    let accent: Unit = (b"\xC3\xA9", b"\xE9\0");
+    let kanji: Unit = (b"\xE6\x97\xA5", b"\xE5\x65");
+    let smile: Unit = (b"\xF0\x9F\x98\x80", b"\x3D\xD8\0\xDE");
+    for (usual, other) in [
+        (letter, accent),
+        (accent, kanji),
+        (kanji, letter),
+        (accent, smile),
+    ] {
+        assert!(&rt; tries(alloc, pair, usual, other)?);
+    }
+    Ok(())
+}
+
+#[test]
+fn units_of_utf8_end_before_what_is_none(rt: HostRuntime) -> Result<(), Fail> {
+    let alloc = rt.alloc();
+    let pair = (Uni::Utf8, Uni::Utf16Be);
+    let accent: Unit = (b"\xC3\xA9", b"\0\xE9");
+    let kanji: Unit = (b"\xE6\x97\xA5", b"\x65\xE5");
+    for wrong in [
+        b"\x80".as_slice(),
+        b"\xC1\xBF",
+        b"\xC3A",
+        b"\xE0\x9F\xBF",
+        b"\xED\xA0\x80",
+        b"\xE6\x97A",
+        b"\xFF",
+    ] {
+        assert!(&rt; tries_wrong(alloc, pair, accent, wrong)?);
+        assert!(&rt; tries_wrong(alloc, pair, kanji, wrong)?);
+    }
     Ok(())
 }

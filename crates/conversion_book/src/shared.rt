@@ -163,4 +163,9 @@ impl Lookup for SharedTables {
     fn is_double(&self, table: u32) -> bool {
         self.list[table as usize].is_double()
     }
+
+    #[inline(always)]
+    fn is_ascii(&self, table: u32) -> bool {
+        self.list[table as usize].is_ascii()
+    }
 }

@@ -1,5 +1,5 @@
 -- Units of UTF-8 told by where they end: byte by byte.
-use Rattle.std.proofs.Common.{◌≡◌, ℕ, zero, suc, ◌+◌, ◌-◌, ◌*◌, ◌/◌, ◌%◌, ◌≤◌, ◌<◌, Bool, true, false, ◌&&◌, ◌||◌, List, [], ◌∷◌, ◌++◌, map, length, take, refl, sym, ap, ◌∙◌, arith, inl, inr, ◌⊎◌, w8, Fits, append_assoc, length-append}
+use Rattle.std.proofs.Common.{subst, ◌≡◌, ℕ, zero, suc, ◌+◌, ◌-◌, ◌*◌, ◌/◌, ◌%◌, ◌≤◌, ◌<◌, Bool, true, false, ◌&&◌, ◌||◌, List, [], ◌∷◌, ◌++◌, map, length, take, refl, sym, ap, ◌∙◌, arith, inl, inr, ◌⊎◌, w8, Fits, append_assoc, length-append}
 use Rattle.std.specs.Prelude.{nat_lt, nat_le}
 use Rattle.std.specs.List.{AllByRecursion, flat_map}
 use Rattle.std.proofs.lemmas.Bool.Decides.{nat_tests}
@@ -137,7 +137,10 @@ first_byte a b c fine small left =
       | inl lt ↦
           let is1 : is_in 0 0x80 c ≡ true = is_inside 0 0x80 c (omega arith) lt in
           let low : nat_lt c 0x80 ≡ true = grind (arith, nat_tests, lt) in
-          inl (record { ends = rw is1 refl; unit = rw low (rw low refl); wide = rw low (omega (arith, lt), (omega (arith, lt), λ h. omega (arith, lt, h))); left = (omega (arith, left.1), omega (arith, lt)) })
+          let notail : is_in 0x80 0x40 c ≡ false = not_below 0x80 0x40 c lt in
+          let is : point_at (at_window a b c) ≡ c = rw (notail, no2) (let e : (((c + (256 - 0)) % 256 + 0 * 64 % 65536) % 65536 + 0 * 4096 % 65536) % 65536 ≡ c = omega (arith, lt) in e) in
+          let wide : IsWide c = (omega (arith, lt), (omega (arith, lt), λ h. omega (arith, lt, h))) in
+          inl (record { ends = rw is1 refl; unit = ap utf8 is ∙ rw low refl; wide = subst IsWide (sym is) wide; left = (omega (arith, left.1), omega (arith, lt)) })
       | inr ge ↦
           let far : 0xC0 ≤ c = out_of 0x80 0x40 c head ge in
           let lead : 0xC2 ≤ c = out_of 0xC0 2 c fine.none far in
@@ -160,21 +163,22 @@ second_of_two a b c fine left =
     let b1 : 0xC2 ≤ b = left.1 in
     let b2 : b < 0xE0 = left.2 in
     let none : is_in 0 0x80 c ≡ false = not_above 0 0x80 c low in
-    let no1 : nat_lt c 0x80 ≡ false = grind (arith, nat_tests, low) in
     let a1 : a < 0xE0 = omega (arith, left.0) in
-    let yes3 : nat_lt a 0xE0 ≡ true = grind (arith, nat_tests, a1) in
-    let p = (b * 64 % 65536 + c) % 65536 + (65536 - 0x3080) in
-    let is : p % 65536 ≡ (b - 0xC0) * 64 + (c - 0x80) = omega (arith, low, high, b1, b2) in
+    let here : is_in 0x80 0x40 c ≡ true = is_inside 0x80 0x40 c low high in
+    let before : is_in 0xE0 0x10 a ≡ false = not_below 0xE0 0x10 a a1 in
     let q = (b - 0xC0) * 64 + (c - 0x80) in
+    let is : point_at (at_window a b c) ≡ q =
+    rw (here, before) (let e : (((c + (256 - 0x80)) % 256 + b % 64 * 64 % 65536) % 65536 + 0 * 4096 % 65536) % 65536 ≡ q = omega (arith, low, high, b1, b2) in e) in
     let no4 : nat_lt q 0x80 ≡ false = let h : 0x80 ≤ q = omega (arith, low, b1) in grind (arith, nat_tests, h) in
     let few : q < 0x800 = omega (arith, high, b2) in
     let yes5 : nat_lt q 0x800 ≡ true = grind (arith, nat_tests, few) in
     let one : 0xC0 + q / 64 ≡ b = omega (arith, low, high, b1) in
     let two : 0x80 + q % 64 ≡ c = omega (arith, low, high, b1) in
+    let wide : IsWide q = (omega (arith, few), (omega (arith, few), λ h. omega (arith, few, h))) in
     inl (record {
       ends = rw (none, yes2) refl;
-      unit = rw (no1, yes3, is) (rw (no4, yes5) (λ i. one i ∷ two i ∷ []));
-      wide = rw (no1, yes3, is) (omega (arith, few), (omega (arith, few), λ h. omega (arith, few, h)));
+      unit = ap utf8 is ∙ rw (no4, yes5) (λ i. one i ∷ two i ∷ []);
+      wide = subst IsWide (sym is) wide;
       left = (b2, high);
     })
 
@@ -214,10 +218,10 @@ third_byte a b c fine left =
     let low : 0x80 ≤ c = tail.0 in
     let high : c < 0xC0 = tail.1 in
     let none : is_in 0 0x80 c ≡ false = not_above 0 0x80 c low in
-    let no3 : nat_lt c 0x80 ≡ false = grind (arith, nat_tests, low) in
-    let no4 : nat_lt a 0xE0 ≡ false = grind (arith, nat_tests, a1) in
+    let here : is_in 0x80 0x40 c ≡ true = is_inside 0x80 0x40 c low high in
     let q = (a - 0xE0) * 4096 + (b - 0x80) * 64 + (c - 0x80) in
-    let is : ((a * 4096 % 65536 + (b * 64 % 65536 + c) % 65536) % 65536 + (65536 - 0x2080)) % 65536 ≡ q = omega (arith, a1, a2, b1, b2, low, high) in
+    let is : point_at (at_window a b c) ≡ q =
+    rw (here, yes1) (let e : (((c + (256 - 0x80)) % 256 + b % 64 * 64 % 65536) % 65536 + a % 16 * 4096 % 65536) % 65536 ≡ q = omega (arith, a1, a2, b1, b2, low, high) in e) in
     let ge : 0x800 ≤ q = elim (cases_lt a 0xE1) [
       | inl lt ↦ let e : a ≡ 0xE0 = omega (arith, a1, lt) in let more : 0xA0 ≤ b = least e in omega (arith, e, more, low)
       | inr more ↦ omega (arith, more)
@@ -236,10 +240,11 @@ third_byte a b c fine left =
     let one : 0xE0 + q / 4096 ≡ a = omega (arith, a1, b1, b2, low, high) in
     let two : 0x80 + q / 64 % 64 ≡ b = omega (arith, a1, b1, b2, low, high) in
     let three : 0x80 + q % 64 ≡ c = omega (arith, a1, b1, b2, low, high) in
+    let wide : IsWide q = (few, (omega (arith, few), point)) in
     inl (record {
       ends = rw (none, no2, yes1) refl;
-      unit = rw (no3, no4, is) (rw (no5, no6, yes7) (λ i. one i ∷ two i ∷ three i ∷ []));
-      wide = rw (no3, no4, is) (few, (omega (arith, few), point));
+      unit = ap utf8 is ∙ rw (no5, no6, yes7) (λ i. one i ∷ two i ∷ three i ∷ []);
+      wide = subst IsWide (sym is) wide;
       left = (omega (arith, b2), high);
     })
 

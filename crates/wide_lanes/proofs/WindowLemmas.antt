@@ -61,30 +61,30 @@ zip_flags op both same s t ws xs ys ex ey =
 pub in_field : (from count : ℕ) (field : Window → ℕ) (ws : List Window) (v r : List ℕ) → v ≡ map field ws → r ≡ map (λ b. flag (is_in from count b)) v → r ≡ map (λ w. flag (is_in from count (field w))) ws
 in_field from count field ws v r of is = is ∙ ap (map (λ b. flag (is_in from count b))) of ∙ map-map (λ b. flag (is_in from count b)) field ws
 
-is_within : (from count x : ℕ) → x < 256 → from < 256 → from + count ≤ 256 → cond (ltb ((x + (2 ^ 8 - from)) % 2 ^ 8) count) 255 0 ≡ flag (is_in from count x)
+is_within : (from count x : ℕ) → x < 256 → from < 256 → from + count ≤ 256 → ltb ((x + (2 ^ 8 - from)) % 2 ^ 8) count ≡ is_in from count x
 is_within from count x small start fits = elim (cases_lt x from) [
   | inl lt ↦
       let far : ltb ((x + (2 ^ 8 - from)) % 2 ^ 8) count ≡ false = let e : (x + (256 - from)) % 256 ≡ x + (256 - from) = omega (arith, small, start, lt) in grind (arith, nat_tests, e, lt, fits) in
-      let no : nat_le from x ≡ false = grind (arith, nat_tests, lt) in
-      rw (far, no) refl
+      let no1 : nat_le from x ≡ false = grind (arith, nat_tests, lt) in
+      rw (far, no1) refl
   | inr ge ↦
       let e : (x + (2 ^ 8 - from)) % 2 ^ 8 ≡ x - from = omega (arith, small, start, ge) in
-      let yes : nat_le from x ≡ true = grind (arith, nat_tests, ge) in
+      let yes1 : nat_le from x ≡ true = grind (arith, nat_tests, ge) in
       elim (cases_lt x (from + count)) [
         | inl lt ↦
             let near : ltb (x - from) count ≡ true = grind (arith, nat_tests, lt, ge) in
             let is : nat_lt x (from + count) ≡ true = grind (arith, nat_tests, lt) in
-            rw (e, near, yes, is) refl
-        | inr more ↦
-            let far : ltb (x - from) count ≡ false = grind (arith, nat_tests, more, ge) in
-            let no : nat_lt x (from + count) ≡ false = grind (arith, nat_tests, more) in
-            rw (e, far, yes, no) refl
+            rw (e, near, yes1, is) refl
+        | inr over ↦
+            let far : ltb (x - from) count ≡ false = grind (arith, nat_tests, over, ge) in
+            let no2 : nat_lt x (from + count) ≡ false = grind (arith, nat_tests, over) in
+            rw (e, far, yes1, no2) refl
       ]
 ]
 
 bytes_within : (from count : ℕ) → from < 256 → from + count ≤ 256 → (v : List ℕ) → Each1 (Fits w8) v → map (λ x. cond (ltb ((x + (2 ^ 8 - from)) % 2 ^ 8) count) 255 0) v ≡ map (λ b. flag (is_in from count b)) v
 bytes_within from count start fits [] each = refl
-bytes_within from count start fits (x ∷ v) each = λ i. is_within from count x each.0.fits start fits i ∷ bytes_within from count start fits v each.1 i
+bytes_within from count start fits (x ∷ v) each = λ i. flag (is_within from count x each.0.fits start fits i) ∷ bytes_within from count start fits v each.1 i
 
 -- the lanes of a range
 pub range_lanes : (from count : ℕ) → from < 256 → from + count ≤ 256 → (v : List ℕ) → length v ≡ 16 → Each1 (Fits w8) v →
@@ -102,6 +102,32 @@ range_lanes from count start fits v long each =
     ∙ sel_maps (λ x. ltb (sub x) count) (λ _. 255) (λ _. 0) v
     ∙ bytes_within from count start fits v each
 
+sel_all : (t : Window → Bool) (g h : Window → ℕ) (ws : List Window) → sel_l (map t ws) (map g ws) (map h ws) ≡ map (λ w. cond (t w) (g w) (h w)) ws
+sel_all t g h [] = refl
+sel_all t g h (w ∷ ws) = ap (λ z. cond (t w) (g w) (h w) ∷ z) (sel_all t g h ws)
+
+pub sel_windows : (t : Window → Bool) (g h : Window → ℕ) (ws : List Window) (ts : List Bool) (xs ys : List ℕ) → ts ≡ map t ws → xs ≡ map g ws → ys ≡ map h ws →
+    sel_l ts xs ys ≡ map (λ w. cond (t w) (g w) (h w)) ws
+sel_windows t g h ws ts xs ys et ex ey =
+    ap (λ z. sel_l z xs ys) et ∙ ap (λ z. sel_l (map t ws) z ys) ex ∙ ap (λ z. sel_l (map t ws) (map g ws) z) ey ∙ sel_all t g h ws
+
+tests_within : (from count : ℕ) → from < 256 → from + count ≤ 256 → (v : List ℕ) → Each1 (Fits w8) v → map (λ x. ltb ((x + (2 ^ 8 - from)) % 2 ^ 8) count) v ≡ map (is_in from count) v
+tests_within from count start fits [] each = refl
+tests_within from count start fits (x ∷ v) each = λ i. is_within from count x each.0.fits start fits i ∷ tests_within from count start fits v each.1 i
+
+-- values at a range
+pub values_lanes : (from count : ℕ) → from < 256 → from + count ≤ 256 → (v values : List ℕ) → length v ≡ 16 → Each1 (Fits w8) v → (ws : List Window) (f g : Window → ℕ) → v ≡ map f ws → values ≡ map g ws →
+    sel_l (map (top 7) (zip2 (λ a b. cond (ltb a b) 255 0) (zip2 (λ a b. (a + (2 ^ 8 - b)) % 2 ^ 8) v (replicate 16 from)) (replicate 16 count))) values (replicate 16 0)
+    ≡ map (λ w. if is_in from count (f w) then g w else 0) ws
+values_lanes from count start fits v values long each ws f g of are =
+    let sub : ℕ → ℕ = λ x. (x + (2 ^ 8 - from)) % 2 ^ 8 in
+    let moved : zip2 (λ a b. (a + (2 ^ 8 - b)) % 2 ^ 8) v (replicate 16 from) ≡ map sub v = zip2_splat (λ a b. (a + (2 ^ 8 - b)) % 2 ^ 8) v 16 from long in
+    let tests : map (top 7) (zip2 (λ a b. cond (ltb a b) 255 0) (zip2 (λ a b. (a + (2 ^ 8 - b)) % 2 ^ 8) v (replicate 16 from)) (replicate 16 count)) ≡ map (λ x. ltb (sub x) count) v =
+    tops_compared w8 ltb (zip2 (λ a b. (a + (2 ^ 8 - b)) % 2 ^ 8) v (replicate 16 from)) (replicate 16 count)
+    ∙ ap (λ z. zip2 ltb z (replicate 16 count)) moved ∙ zip2_of_maps ltb sub (λ _. count) v refl (splat_is_map v 16 count long) in
+    let size : length ws ≡ 16 = sym (length-map ws f) ∙ sym (ap length of) ∙ long in
+    sel_windows (λ w. is_in from count (f w)) g (λ _. 0) ws _ _ _ (tests ∙ tests_within from count start fits v each ∙ ap (map (is_in from count)) of ∙ map-map (is_in from count) f ws) are (splat_is_map ws 16 0 size)
+
 -- the bits of flags
 pub bits_of_flags : (ws : List Window) (t : Window → Bool) (v : List ℕ) → length v ≡ 16 → v ≡ map (λ w. flag (t w)) ws →
     mask_l (map (top 7) (zip2 (λ a b. cond (leb a b) 255 0) (replicate 16 128) v)) % 2 ^ 64 ≡ mask_l (map t ws)
@@ -113,15 +139,6 @@ bits_of_flags ws t v long is =
     ap (λ ms. mask_l ms % 2 ^ 64) same ∙ mask_l-mod (map t ws) 64 (omega (arith, few))
 
 -- ---- numbers of 16 bits, computed from windows
-
-sel_all : (t : Window → Bool) (g h : Window → ℕ) (ws : List Window) → sel_l (map t ws) (map g ws) (map h ws) ≡ map (λ w. cond (t w) (g w) (h w)) ws
-sel_all t g h [] = refl
-sel_all t g h (w ∷ ws) = ap (λ z. cond (t w) (g w) (h w) ∷ z) (sel_all t g h ws)
-
-pub sel_windows : (t : Window → Bool) (g h : Window → ℕ) (ws : List Window) (ts : List Bool) (xs ys : List ℕ) → ts ≡ map t ws → xs ≡ map g ws → ys ≡ map h ws →
-    sel_l ts xs ys ≡ map (λ w. cond (t w) (g w) (h w)) ws
-sel_windows t g h ws ts xs ys et ex ey =
-    ap (λ z. sel_l z xs ys) et ∙ ap (λ z. sel_l (map t ws) z ys) ex ∙ ap (λ z. sel_l (map t ws) (map g ws) z) ey ∙ sel_all t g h ws
 
 pub below_windows : (g : Window → ℕ) (ws : List Window) (y : ℕ) (xs : List ℕ) → length ws ≡ 16 → xs ≡ map g ws →
     map (top 15) (zip2 (λ a b. cond (ltb a b) 65535 0) xs (replicate 16 y)) ≡ map (λ w. ltb (g w) y) ws

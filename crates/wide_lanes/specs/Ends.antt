@@ -44,12 +44,19 @@ is_wrong w =
 abbrev pub ends : Window → Bool
 ends w = is_in 0 0x80 w.here || (is_in 0xC2 0x1E w.one || is_in 0xE0 0x10 w.two)
 
--- what the unit that ends there gives, in numbers of 16 bits
+-- what the unit that ends there gives, in three parts: six bits of the byte, or seven, six of the one before,
+-- and four of the one before that
+abbrev pub low_part : Window → ℕ
+low_part w = (w.here + (256 - (if is_in 0x80 0x40 w.here then 0x80 else 0))) % 256
+
+abbrev pub middle_part : Window → ℕ
+middle_part w = if is_in 0x80 0x40 w.here then w.one % 64 else 0
+
+abbrev pub high_part : Window → ℕ
+high_part w = if is_in 0xE0 0x10 w.two then w.two % 16 else 0
+
 abbrev pub point_at : Window → ℕ
-point_at w =
-    if nat_lt w.here 0x80 then w.here
-    else if nat_lt w.two 0xE0 then ((w.one * 64 % 65536 + w.here) % 65536 + (65536 - 0x3080)) % 65536
-    else ((w.two * 4096 % 65536 + (w.one * 64 % 65536 + w.here) % 65536) % 65536 + (65536 - 0x2080)) % 65536
+point_at w = ((low_part w + middle_part w * 64 % 65536) % 65536 + high_part w * 4096 % 65536) % 65536
 
 -- the numbers at the bits that are set, lowest ones first
 abbrev pub picked : ℕ → List ℕ → List ℕ
@@ -58,7 +65,8 @@ picked mask (p ∷ q) = if nat_eq (mask % 2) 1 then p ∷ picked (mask / 2) q el
 
 -- the same of pairs of bytes
 abbrev pub picked_pairs : ℕ → List ℕ → List ℕ
-picked_pairs mask (a ∷ b ∷ bytes) = if nat_eq (mask % 2) 1 then a ∷ b ∷ picked_pairs (mask / 2) bytes else picked_pairs (mask / 2) bytes
+picked_pairs mask (a ∷ b ∷ bytes) =
+    if nat_eq (mask % 2) 1 then a ∷ b ∷ picked_pairs (mask / 2) bytes else picked_pairs (mask / 2) bytes
 picked_pairs mask _ = []
 
 -- how many of sixteen bytes are whole units, by the last two of them

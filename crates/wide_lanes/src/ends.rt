@@ -1,12 +1,13 @@
 //! UTF-8 of up to three bytes a unit, sixteen bytes at once: at each byte is computed what a unit that ends
 //! there gives, and the numbers are kept where one does.
 
-ghost use Rattle.std.specs.Prelude.{◌≡◌, ◌+◌, ◌<◌, ◌≤◌, ℕ, Bool, List, ◌∷◌, length, take, map, IfSome};
+ghost use Rattle.std.specs.Prelude.{◌≡◌, ◌+◌, ◌<◌, ◌≤◌, if◌then◌else◌, ℕ, Bool, List, ◌∷◌, length, take, map, IfSome};
 ghost use Rattle.std.specs.Simd.Lanes.{mask_l};
 ghost use Rattle.std.specs.List.{flat_map};
 ghost use Rattle.step_unicode.specs.Utf8.{utf8};
 ghost use Rattle.wide_lanes.specs.Wide.{AreWide};
-ghost use Rattle.wide_lanes.specs.Ends.{Window, AreBytes, is_in, flag, goes_on, is_wrong, ends, point_at, picked, whole_of};
+ghost use Rattle.wide_lanes.specs.Ends.{Window, AreBytes, is_in, flag, goes_on, is_wrong, ends};
+ghost use Rattle.wide_lanes.specs.Ends.{point_at, picked, whole_of};
 
 use std::simd::prelude::*;
 
@@ -94,22 +95,27 @@ fn numbers(bytes: u8x16) -> u16x16
     bytes.cast::<u16>()
 }
 
+/// The values at bytes that are one of `count` from `from` on, and 0 at the others.
+#[inline(always)]
+fn values_at(bytes: u8x16, from: u8, count: u8, values: u8x16) -> u8x16
+    requires { from + count ≤ 256 }
+    ensures { (ws : List Window) (f g : Window → ℕ) → bytes ≡ map f ws → values ≡ map g ws
+        → result ≡ map (λ w. if is_in from count (f w) then g w else 0) ws }
+{
+    (bytes - u8x16::splat(from))
+        .simd_lt(u8x16::splat(count))
+        .select(values, u8x16::splat(0))
+}
+
 /// What a unit that ends at each byte gives.
 #[inline(always)]
 fn points(two: u8x16, one: u8x16, here: u8x16) -> u16x16
     ensures { (ws : List Window) → AreBytes ws two one here → result ≡ map point_at ws }
 {
-    let last = numbers(here);
-    let first = numbers(two);
-    let both = numbers(one) * u16x16::splat(64) + last;
-    let three = first * u16x16::splat(4096) + both;
-    last.simd_lt(u16x16::splat(0x80)).select(
-        last,
-        first.simd_lt(u16x16::splat(0xE0)).select(
-            both - u16x16::splat(0x3080),
-            three - u16x16::splat(0x2080),
-        ),
-    )
+    let low = here - values_at(here, 0x80, 0x40, u8x16::splat(0x80));
+    let middle = values_at(here, 0x80, 0x40, one % u8x16::splat(64));
+    let high = values_at(two, 0xE0, 0x10, two % u8x16::splat(16));
+    numbers(low) + numbers(middle) * u16x16::splat(64) + numbers(high) * u16x16::splat(4096)
 }
 
 /// Points, where the first sixteen bytes are their UTF-8 and, behind it, what a unit begins with.
