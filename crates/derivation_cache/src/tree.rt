@@ -81,7 +81,8 @@ fn lowered_left(
     pair: Arc<Pair, Global>,
     right: Tree,
 ) -> Result<Tree, AllocError>
-    ensures { IfOk result (λ t. in_order t ≡ (in_order left.now.left ++ arc_value left.now.pair ∷ in_order left.now.right)
+    ensures { IfOk result (λ t. in_order t
+        ≡ (in_order left.now.left ++ arc_value left.now.pair ∷ in_order left.now.right)
         ++ arc_value pair ∷ in_order right) }
 {
     let outer = shared(&left.left)?;
