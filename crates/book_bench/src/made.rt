@@ -1,0 +1,40 @@
+//! A configuration that is made: sets with a module each, and the charmaps of these.
+
+use outside::ShelfLibrary;
+use std::alloc::{AllocError, Global};
+
+/// The configuration of so many sets.
+pub fn modules(alloc: Global, sets: u32) -> Result<Vec<u8>, AllocError> {
+    let mut text = Vec::new(alloc);
+    for set in 0..sets {
+        let lines = format!(in alloc;
+            "module N{set}// INTERNAL M{set} 1\nmodule INTERNAL N{set}// M{set} 1\n"
+        )?;
+        text.extend_from_slice(lines.as_bytes())?;
+    }
+    Ok(text)
+}
+
+/// Its bindings: a table for each set.
+pub fn bindings(alloc: Global, sets: u32) -> Result<Vec<u8>, AllocError> {
+    let mut text = Vec::new(alloc);
+    for set in 0..sets {
+        let line = format!(in alloc; "M{set} table C{set}\n")?;
+        text.extend_from_slice(line.as_bytes())?;
+    }
+    Ok(text)
+}
+
+/// A charmap of one code.
+const CHARMAP: &[u8] = b"<escape_char> /\n<comment_char> %\nCHARMAP\n<U0041> /x41\nEND CHARMAP\n";
+
+/// A library of the charmaps.
+pub fn library(alloc: Global, sets: u32) -> Result<ShelfLibrary, AllocError> {
+    let mut texts = Vec::new(alloc);
+    for set in 0..sets {
+        let mut text = Vec::new(alloc);
+        text.extend_from_slice(CHARMAP)?;
+        texts.push((format!(in alloc; "d/C{set}")?, text))?;
+    }
+    Ok(ShelfLibrary::new(alloc, texts, Vec::new(alloc)))
+}
