@@ -1,5 +1,5 @@
 -- How a run with workers ends.
-use Rattle.std.proofs.Common.{◌≡◌, ◌∙◌, inl, ◌+◌, ◌≤◌, ℕ, suc, zero, Bool, List, [], ◌∷◌, ◌++◌, length, take, drop, map, Option, Some, None, ap, sym, subst, refl, arith, take-append-drop}
+use Rattle.std.proofs.Common.{◌≡◌, ◌∙◌, inl, ◌≤◌, ℕ, suc, zero, Bool, List, [], ◌∷◌, length, take, drop, Option, None, ap, sym, subst, refl, arith, take-append-drop}
 use Rattle.std.proofs.lemmas.List.{take-map}
 use Rattle.std.proofs.Math.Seq.{take-length}
 use Rattle.outside.specs.Faults.{RoseBy}
@@ -15,16 +15,16 @@ use Rattle.batch_runs.specs.declared.cause.Cause.{Cause}
 use Rattle.batch_runs.specs.declared.cause.Cause.TheVariants.{Memory}
 use Rattle.batch_runs.specs.Takings.{Taking, AreTaken, all_inputs, read_faults}
 use Rattle.batch_runs.specs.Lines.{memory_line}
-use Rattle.batch_runs.specs.Works.{Work, AreWorked, Works}
+use Rattle.batch_runs.specs.Works.{Work, AreWorked}
 use Rattle.batch_runs.specs.Puts.{PutsJournal, ArePut, sent_fault, write_faults}
-use Rattle.batch_runs.specs.Histories.{Ask, Call, weight, calls_of, calls_of_jobs, ask_of, IsHistory, IsPart}
+use Rattle.batch_runs.specs.Histories.{Call, calls_of, calls_of_jobs, IsHistory, IsPart}
 use Rattle.batch_runs.specs.Meanings.{AskedSince, HasFetched}
-use Rattle.batch_runs.specs.Batches.{World, Batch, IsDone, Writes, all_good, report_by}
+use Rattle.batch_runs.specs.Batches.{World, Batch, Writes, all_good, report_by}
 use Rattle.batch_runs.specs.Endings.{Task, EndsBy, cause_of}
 use Rattle.batch_alone.specs.Stops.{Tells}
 use Rattle.batch_alone.proofs.Snoc.{names_of, rose_on}
 use Rattle.batch_alone.proofs.SettleLemmas.{taken_take}
-use Rattle.batch_alone.proofs.OneThread.{asks, asks_jobs, ends_by}
+use Rattle.batch_alone.proofs.OneThread.{asks_jobs, ends_by}
 use Rattle.batch_workers.specs.Parts.{Base, Part, Ends}
 use Rattle.batch_workers.specs.Toils.{AreBegunBy, AreDoneBy}
 use Rattle.batch_workers.specs.Settling.{ArePutSome, AreTakenAndDone, IsSettled}

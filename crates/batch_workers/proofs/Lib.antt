@@ -11,3 +11,4 @@ pub mod Boards
 pub mod Together
 pub mod Puts
 pub mod Endings
+pub mod Started

@@ -1,22 +1,21 @@
 -- One job's bytes more.
-use Rattle.std.proofs.Common.{◌≡◌, ◌∙◌, ◌≤◌, ◌<◌, ◌+◌, ◌*◌, ◌==◌, ℕ, zero, suc, Bool, true, false, if◌then◌else◌, unwrap_or, List, [], ◌∷◌, ◌++◌, length, take, map, slice_index_or, Option, Some, None, Result, Ok, Err, IfOk, ap, ap₂, sym, subst, refl, arith, add-one}
+use Rattle.std.proofs.Common.{◌≡◌, ◌∙◌, ◌≤◌, ◌<◌, ◌+◌, ◌==◌, ℕ, zero, suc, Bool, true, false, if◌then◌else◌, unwrap_or, List, [], ◌∷◌, ◌++◌, length, take, map, slice_index_or, Option, ap, ap₂, sym, subst, refl, arith, add-one}
 use Rattle.std.proofs.Math.Seq.{take-length}
 use Rattle.outside.specs.Faults.{RoseBy}
 use Rattle.outside.specs.Moments.{Outside}
 use Rattle.outside.specs.Shelves.{Shelf}
 use Rattle.batch_jobs.specs.declared.jobs.Job.{Job}
-use Rattle.batch_jobs.specs.Jobs.{JobLine, Text, line_of}
+use Rattle.batch_jobs.specs.Jobs.{JobLine, line_of}
 use Rattle.batch_jobs.specs.declared.outcomes.Outcome.{Outcome}
-use Rattle.batch_runs.specs.Takings.{Taking, Got, Missed}
+use Rattle.batch_runs.specs.Takings.{Taking}
 use Rattle.batch_runs.specs.Works.{Work, Skipped, Denied, Converted, bytes_of}
-use Rattle.batch_runs.specs.Puts.{ArePut, PutsOne, bytes_put, write_fault, write_faults}
+use Rattle.batch_runs.specs.Puts.{ArePut, bytes_put, write_fault, write_faults}
 use Rattle.batch_alone.specs.declared.inputs.Input.{Input}
 use Rattle.batch_alone.specs.declared.totals.Totals.{Totals}
 use Rattle.batch_alone.specs.Readings.{length_made, taking_of}
-use Rattle.batch_alone.specs.Steps.{AreCounted, AreTotals}
 use Rattle.batch_alone.proofs.Snoc.{put_snoc, rose_on, take_next_map, write_faults-snoc}
 use Rattle.batch_alone.proofs.Progress.{totals_more}
-use Rattle.batch_workers.specs.Toils.{AreHeld, IsHeld, most_made, work_in, works_in}
+use Rattle.batch_workers.specs.Toils.{AreHeld, IsHeld, work_in, works_in}
 use Rattle.batch_workers.specs.Settling.{ArePutAll, ArePutSome, PutsNext}
 use Rattle.batch_workers.specs.declared.piece.Piece.{Piece}
 

@@ -3,3 +3,4 @@ pub mod Toils
 pub mod Stints
 pub mod Teams
 pub mod Settling
+pub mod Starts

@@ -5,17 +5,14 @@ use Rattle.outside.specs.Moments.{Outside}
 use Rattle.runtime_histories.specs.Settings.{Setting}
 use Rattle.batch_jobs.specs.Jobs.{Text, JobLine}
 use Rattle.batch_jobs.specs.declared.outcomes.Outcome.{Outcome}
-use Rattle.batch_runs.specs.Takings.{Taking, AreTaken, all_inputs, read_count, read_faults}
+use Rattle.batch_runs.specs.Takings.{Taking, AreTaken, all_inputs, read_faults}
 use Rattle.batch_runs.specs.Works.{Work}
 use Rattle.batch_runs.specs.Puts.{ArePut, PutsOne, bytes_put, write_fault, write_faults}
-use Rattle.batch_runs.specs.Batches.{Batch, all_good, report_by}
+use Rattle.batch_runs.specs.Batches.{all_good, report_by}
 use Rattle.batch_alone.specs.Steps.{AreCounted, AreTotals}
-use Rattle.batch_alone.specs.Readings.{taking_of}
 use Rattle.batch_alone.specs.declared.totals.Totals.{Totals}
-use Rattle.batch_alone.specs.declared.inputs.Inputs.{Inputs}
 use Rattle.batch_workers.specs.Parts.{Part}
-use Rattle.batch_workers.specs.Toils.{AreDoneBy, AreHeld, works_in}
-use Rattle.batch_workers.specs.declared.piece.Piece.{Piece}
+use Rattle.batch_workers.specs.Toils.{AreDoneBy}
 
 -- a job's bytes were put, and it ended so
 pub record PutsNext (from to : Outside) (job : JobLine) (work : Work) (outcome : Outcome)

@@ -22,7 +22,7 @@ use std::sync::Wait;
 use std::thread::Threads;
 
 /// The end of a run that wanted memory.
-fn end_short<L, O: Sink>(out: &mut O, library: L, journal: Vec<Entry>) -> Ended<L>
+pub fn end_short<L, O: Sink>(out: &mut O, library: L, journal: Vec<Entry>) -> Ended<L>
     ensures status { result.status ≡ status_of result.cause }
     ensures cause { result.cause ≡ Memory }
     ensures library { result.library ≡ library }
@@ -40,13 +40,7 @@ fn end_short<L, O: Sink>(out: &mut O, library: L, journal: Vec<Entry>) -> Ended<
 
 /// Does the jobs of a run with so many workers, puts the outputs in the order of the jobs, puts the
 /// journal where a file was named, and writes the report. The runtime has no entry and no caller.
-pub fn run_jobs<
-    S: Shared + Sync,
-    G: Gate + Sync,
-    F: Files,
-    O: Sink,
-    R: Threads + Wait + Sync,
->(
+pub fn run_jobs<S: Shared + Sync, G: Gate + Sync, F: Files, O: Sink, R: Threads + Wait + Sync>(
     rt: &R,
     alloc: Global,
     shared: S,

@@ -6,6 +6,7 @@ mod finish;
 mod gate;
 mod piece;
 mod putting;
+mod run;
 mod settling;
 mod shared;
 mod sharing;
@@ -15,5 +16,6 @@ mod worker;
 
 pub use gate::{Gate, OpenGate, Point};
 pub use piece::Piece;
+pub use run::{run_texts_with_workers, run_with_workers};
 pub use shared::Shared;
 pub use worker::Worker;

@@ -60,7 +60,16 @@ pub fn do_jobs<S: Shared + Sync, G: Gate + Sync, F: Files, R: Threads + Wait + S
     ensures puts { (F.outside files.new).puts ≡ (F.outside files.old).puts }
 {
     let inputs = take_inputs(alloc, files, jobs)?;
-    let slots = share_jobs(rt, alloc, shared, lead, count, gate, jobs, inputs.list.as_slice())?;
+    let slots = share_jobs(
+        rt,
+        alloc,
+        shared,
+        lead,
+        count,
+        gate,
+        jobs,
+        inputs.list.as_slice(),
+    )?;
     Ok(Worked { inputs, slots })
 }
 

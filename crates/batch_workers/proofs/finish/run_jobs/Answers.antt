@@ -1,9 +1,8 @@
-use Rattle.std.proofs.Common.{rules, ◌≡◌, ◌∙◌, ℕ, List, length, map, ap, sym, subst, refl}
+use Rattle.std.proofs.Common.{◌≡◌, ◌∙◌, List, length, map, ap, sym, subst, refl}
 use Rattle.std.proofs.lemmas.List.{length-map}
 use Rattle.std.specs.Prelude.{option_map}
 use Rattle.std.specs.declared.vec.Vec.{Vec}
 use Rattle.std.specs.declared.alloc.Global.{Global}
-use Rattle.outside.specs.Moments.{Outside, Written}
 use Rattle.runtime_histories.specs.declared.entries.Entry.{Entry}
 use Rattle.batch_jobs.specs.Jobs.{JobLine, Text, line_of}
 use Rattle.batch_runs.specs.Takings.{all_inputs}

@@ -1,8 +1,6 @@
-use Rattle.std.proofs.Common.{rules, ◌≡◌, ◌≢◌, ◌∙◌, ◌≤◌, ◌<◌, ◌+◌, ◌*◌, ℕ, List, [], ◌∷◌, ◌++◌, Option, length, take, map, slice_index_or, ap, sym, subst, refl, arith}
+use Rattle.std.proofs.Common.{◌≡◌, ◌≢◌, ◌∙◌, ◌<◌, ◌+◌, [], ◌∷◌, ◌++◌, Option, length, take, map, ap, sym, subst, refl, arith}
 use Rattle.std.proofs.lemmas.List.{get_or-set_other, length-map}
-use Rattle.outside.specs.Moments.{Outside}
 use Rattle.batch_jobs.specs.Jobs.{line_of}
-use Rattle.batch_jobs.specs.declared.outcomes.Outcome.{Outcome}
 use Rattle.batch_alone.specs.declared.totals.Totals.{Totals}
 use Rattle.batch_alone.specs.Readings.{taking_of}
 use Rattle.batch_alone.proofs.Cutting.{err_gives}

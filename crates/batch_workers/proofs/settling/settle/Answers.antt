@@ -1,6 +1,5 @@
-use Rattle.std.proofs.Common.{◌≡◌, ◌∙◌, List, Option, length, map, ap, sym, subst, arith}
+use Rattle.std.proofs.Common.{◌∙◌, List, Option, length, map, ap, subst, arith}
 use Rattle.std.proofs.lemmas.List.{length-map}
-use Rattle.outside.specs.Moments.{Outside}
 use Rattle.batch_jobs.specs.Jobs.{line_of}
 use Rattle.batch_alone.specs.declared.inputs.Input.{Input}
 use Rattle.batch_alone.specs.Readings.{taking_of}
