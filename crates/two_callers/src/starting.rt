@@ -19,12 +19,20 @@ const MOST_ENTRIES: u32 = 16_777_216;
 pub fn start(alloc: Global) -> Option<(Gconv<SureLibrary>, Lead<SureLibrary>)>
     ensures { IfSome result (λ made. Leads made.0 made.1 × (next_number made.1 ≡ 1)) }
 {
-    let conf = read_modules(alloc, modules_text()).ok()?;
-    let bindings = read_bindings(alloc, bindings_text()).ok()?;
+    let Ok(conf) = read_modules(alloc, modules_text()) else {
+        return None;
+    };
+    let Ok(bindings) = read_bindings(alloc, bindings_text()) else {
+        return None;
+    };
     modules_name_charmaps();
-    let graph = Graph::build(alloc, &conf, &bindings).ok()?;
+    let Ok(graph) = Graph::build(alloc, &conf, &bindings) else {
+        return None;
+    };
     let _edges = graph.edges();
-    let aliases = aliases_of(alloc, &conf).ok()?;
+    let Ok(aliases) = aliases_of(alloc, &conf) else {
+        return None;
+    };
     let directory = String::from_str(alloc, "maps").ok()?;
     let library = SureLibrary::new(alloc, maps(alloc)?);
     let made = Gconv::new(

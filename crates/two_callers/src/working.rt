@@ -42,6 +42,23 @@ fn work_once<L: Library, R: Wait, K: Ledger>(
     }
 }
 
+/// The same with a brand of its own.
+fn work_branded<L: Library, R: Wait>(
+    rt: &R,
+    alloc: Global,
+    gconv: &Gconv<L>,
+    caller: &mut Caller<L>,
+    from: &[u8],
+    to: &[u8],
+) -> bool
+    requires knows { Knows gconv.now caller.old }
+    requires from { length from.now ≤ longest_text }
+    requires to { length to.now ≤ longest_text }
+    ensures knows { Knows gconv.now caller.new }
+{
+    work_once::<L, R, Brand>(rt, alloc, Blank::new(1), gconv, caller, from, to)
+}
+
 /// Does so many times, and counts how often a byte was converted.
 pub fn work<L: Library, R: Wait>(
     rt: &R,
@@ -60,7 +77,7 @@ pub fn work<L: Library, R: Wait>(
 {
     let mut done = 0;
     for k in 0..times {
-        if work_once::<L, R, Brand>(rt, alloc, Blank::new(1), gconv, &mut caller, from, to) {
+        if work_branded(rt, alloc, gconv, &mut caller, from, to) {
             done += 1;
         }
     }
