@@ -47,7 +47,7 @@ pub fn status_of(cause: Cause) -> u8
 pub const NO_MEMORY: &str = "out of memory\n";
 
 /// Puts the journal's text, where a file was named.
-fn put_journal<F: Files>(
+pub fn put_journal<F: Files>(
     alloc: Global,
     files: &mut F,
     file: Option<&str>,
@@ -81,7 +81,7 @@ pub fn write<O: Sink>(out: &mut O, text: &[u8]) -> Sent
 
 /// Why a run ends, by whether all outcomes are good and by what putting the journal and writing the
 /// report were answered.
-fn cause_of(good: bool, put: Sent, report: Sent) -> Cause
+pub fn cause_of(good: bool, put: Sent, report: Sent) -> Cause
     ensures { (outcomes : List Outcome) → good ≡ all_good outcomes → result ≡ cause_of outcomes put report }
 {
     match put {

@@ -16,8 +16,14 @@ mod texts;
 mod totals;
 mod work;
 
-pub use finish::Ended;
-pub use run::{Aim, run_prepared, run_texts};
+pub use finish::{Ended, NO_MEMORY, cause_of, put_journal, status_of, write};
+pub use halt::Halt;
+pub use inputs::{Input, Inputs, take_inputs};
+pub use puts::{Ending, put_one};
+pub use run::{Aim, MOST_ENTRIES, run_prepared, run_texts, tell_short, tell_stop};
 pub use runtime::{Closed, Runtime};
+pub use settling::{all_good, report_text};
 pub use single::run_single;
+pub use texts::{Ready, prepare};
+pub use totals::{Totals, both, no_totals};
 pub use work::Worked;

@@ -22,7 +22,7 @@ use outside::{Files, Sink};
 use std::alloc::{AllocError, Global};
 
 /// The most entries of a journal.
-const MOST_ENTRIES: u32 = 16_777_216;
+pub const MOST_ENTRIES: u32 = 16_777_216;
 
 /// The line of a run that ended at a text.
 fn stop_line(alloc: Global, stop: Stop) -> Result<String, AllocError>
@@ -53,7 +53,7 @@ pub fn tell_short<O: Sink>(out: &mut O) -> Cause
 }
 
 /// Writes the line of a run that ended before its jobs.
-fn tell_stop<O: Sink>(alloc: Global, halt: Halt, out: &mut O) -> Cause
+pub fn tell_stop<O: Sink>(alloc: Global, halt: Halt, out: &mut O) -> Cause
     ensures { StopsRun (O.written out.old) (O.written out.new) halt result }
 {
     match halt {

@@ -16,7 +16,7 @@ use outside::Files;
 use std::alloc::{AllocError, Global};
 
 /// Whether every outcome is good.
-fn all_good(outcomes: &[Outcome]) -> bool
+pub fn all_good(outcomes: &[Outcome]) -> bool
     ensures { result ≡ all_good outcomes.now }
 {
     'outcomes: for outcome in outcomes {
@@ -35,7 +35,7 @@ pub struct Reported {
 }
 
 /// The text of the report.
-fn report_text(
+pub fn report_text(
     alloc: Global,
     sums: bool,
     outcomes: &[Outcome],

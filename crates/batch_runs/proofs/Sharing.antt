@@ -13,24 +13,24 @@ use Rattle.runtime_histories.specs.Settings.{Setting}
 
 -- ---- what is summed over workers
 
-abbrev total : ℕ → (ℕ → ℕ) → ℕ
+abbrev pub total : ℕ → (ℕ → ℕ) → ℕ
 total zero g = 0
 total (suc n) g = total n g + g (suc n)
 
-total-same : (n : ℕ) (g h : ℕ → ℕ) → ((c : ℕ) → 1 ≤ c → c ≤ n → g c ≡ h c) → total n g ≡ total n h
+pub total-same : (n : ℕ) (g h : ℕ → ℕ) → ((c : ℕ) → 1 ≤ c → c ≤ n → g c ≡ h c) → total n g ≡ total n h
 total-same zero g h f = refl
 total-same (suc n) g h f =
     ap₂ (λ (a b : ℕ). a + b) (total-same n g h (λ c low high. f c low (omega (arith, high)))) (f (suc n) (omega arith) (omega arith))
 
-total-zero : (n : ℕ) → total n (λ c. 0) ≡ 0
+pub total-zero : (n : ℕ) → total n (λ c. 0) ≡ 0
 total-zero zero = refl
 total-zero (suc n) = let i = total-zero n in omega (arith, i)
 
 -- what one caller has is had once
-abbrev has : ℕ → ℕ → ℕ → ℕ
+abbrev pub has : ℕ → ℕ → ℕ → ℕ
 has one x c = if one == c then x else 0
 
-has_not : (one x c : ℕ) → c < one → has one x c ≡ 0
+pub has_not : (one x c : ℕ) → c < one → has one x c ≡ 0
 has_not one x c lt = go (one == c) refl
   where
     go : (b : Bool) → (one == c) ≡ b → has one x c ≡ 0
@@ -42,7 +42,7 @@ total-high zero one x lt = refl
 total-high (suc n) one x lt =
     let i = total-high n one x (omega (arith, lt)) in let h = has_not one x (suc n) lt in omega (arith, i, h)
 
-total-has : (n one x : ℕ) → 1 ≤ one → one ≤ n → total n (has one x) ≡ x
+pub total-has : (n one x : ℕ) → 1 ≤ one → one ≤ n → total n (has one x) ≡ x
 total-has zero one x low high = absurd (omega (arith, low, high))
 total-has (suc n) one x low high = go (λ less. total-has n one x low less) (one == suc n) refl
   where
@@ -58,13 +58,13 @@ total-has (suc n) one x low high = go (λ less. total-has n one x low less) (one
         let i = rest (omega (arith, high, other)) in
         omega (arith, i, here)
 
-total-plus : (n : ℕ) (g h : ℕ → ℕ) → total n (λ c. g c + h c) ≡ total n g + total n h
+pub total-plus : (n : ℕ) (g h : ℕ → ℕ) → total n (λ c. g c + h c) ≡ total n g + total n h
 total-plus zero g h = omega arith
 total-plus (suc n) g h = let i = total-plus n g h in omega (arith, i)
 
 -- ---- the openings of a history are those of its callers
 
-abbrev calls_at : List Placed → List Call
+abbrev pub calls_at : List Placed → List Call
 calls_at [] = []
 calls_at (p ∷ ps) = calls_in p.entry.event ++ calls_at ps
 
@@ -92,7 +92,7 @@ own_one of at e es c = go (e.caller == c) refl
         let b = ap (λ (b : Bool). if b then weight of (calls_in e.event) else 0) is in
         omega (arith, a, b)
 
-parted : (of : Call → ℕ) (n at : ℕ) (es : List Entry) → AreOfWorkers n es → weight of (calls_of es) ≡ total n (λ c. weight of (calls_at (own c (placed_from at es))))
+pub parted : (of : Call → ℕ) (n at : ℕ) (es : List Entry) → AreOfWorkers n es → weight of (calls_of es) ≡ total n (λ c. weight of (calls_at (own c (placed_from at es))))
 parted of n at [] h = sym (total-zero n)
 parted of n at (e ∷ es) h =
     let rest = parted of n (at + 1) es h.1 in
@@ -105,7 +105,7 @@ parted of n at (e ∷ es) h =
 
 -- ---- a caller's openings are its shares'
 
-abbrev call_weight : Setting → (Call → ℕ) → JobLine → Work → ℕ
+abbrev pub call_weight : Setting → (Call → ℕ) → JobLine → Work → ℕ
 call_weight s of j w = weight of (call_of_job s j w)
 
 own_of_weight : (s : Setting) (of : Call → ℕ) (caller : ℕ) (j : JobLine) (w : Work) (ps : List Placed) → IsOwnOf s caller j w ps → weight of (calls_at ps) ≡ call_weight s of j w
@@ -113,14 +113,14 @@ own_of_weight s of caller j (Skipped miss) ps h = ap (λ qs. weight of (calls_at
 own_of_weight s of caller j (Denied r) ps h = ap (λ qs. weight of (calls_at qs)) h.1
 own_of_weight s of caller j (Converted made) ps h = ap (λ qs. weight of (calls_at qs)) h.is
 
-own_weight : (s : Setting) (of : Call → ℕ) (caller : ℕ) (ds : List Share) (ps : List Placed) → AreOwn s caller ds ps
+pub own_weight : (s : Setting) (of : Call → ℕ) (caller : ℕ) (ds : List Share) (ps : List Placed) → AreOwn s caller ds ps
     → weight of (calls_at ps) ≡ weight (λ (d : Share). call_weight s of d.job d.work) ds
 own_weight s of caller [] ps h = ap (λ qs. weight of (calls_at qs)) h
 own_weight s of caller (d ∷ ds) ps h =
     ap (λ qs. weight of (calls_at qs)) h.2 ∙ calls_at-append of h.0 h.1
     ∙ ap₂ (λ (a b : ℕ). a + b) (own_of_weight s of caller d.job d.work h.0 h.3) (own_weight s of caller ds h.1 h.4)
 
-all_weight : (f : Share → ℕ) (n : ℕ) (shares : ℕ → List Share) → total n (λ c. weight f (shares c)) ≡ weight f (all_shares n shares)
+pub all_weight : (f : Share → ℕ) (n : ℕ) (shares : ℕ → List Share) → total n (λ c. weight f (shares c)) ≡ weight f (all_shares n shares)
 all_weight f zero shares = refl
 all_weight f (suc n) shares = ap (λ a. a + weight f (shares (suc n))) (all_weight f n shares) ∙ sym (weight-append f (all_shares n shares) (shares (suc n)))
 
@@ -174,13 +174,13 @@ own_paired_one s caller j (Denied r) ps h = let P : List Placed → Type 0 = λ 
 own_paired_one s caller j (Converted made) ps h =
     let P : List Placed → Type 0 = λ qs. ArePaired None qs None in subst P (sym h.is) (Some h.at, refl, (None, (refl, refl), refl))
 
-own_paired : (s : Setting) (caller : ℕ) (ds : List Share) (ps : List Placed) → AreOwn s caller ds ps → ArePaired None ps None
+pub own_paired : (s : Setting) (caller : ℕ) (ds : List Share) (ps : List Placed) → AreOwn s caller ds ps → ArePaired None ps None
 own_paired s caller [] ps h = let P : List Placed → Type 0 = λ qs. ArePaired None qs None in subst P (sym h) refl
 own_paired s caller (d ∷ ds) ps h =
     let P : List Placed → Type 0 = λ qs. ArePaired None qs None in
     subst P (sym h.2) (paired-append None None None h.0 h.1 (own_paired_one s caller d.job d.work h.0 h.3) (own_paired s caller ds h.1 h.4))
 
-own_none : (n caller at : ℕ) (es : List Entry) → AreOfWorkers n es → ((c : ℕ) → 1 ≤ c → c ≤ n → c ≢ caller) → own caller (placed_from at es) ≡ []
+pub own_none : (n caller at : ℕ) (es : List Entry) → AreOfWorkers n es → ((c : ℕ) → 1 ≤ c → c ≤ n → c ≢ caller) → own caller (placed_from at es) ≡ []
 own_none n caller at [] h out = refl
 own_none n caller at (e ∷ es) h out = go (own_none n caller (at + 1) es h.1 out) (e.caller == caller) refl
   where
@@ -189,7 +189,7 @@ own_none n caller at (e ∷ es) h out = go (own_none n caller (at + 1) es h.1 ou
     go rest false is =
         ap (λ (b : Bool). if b then placed at e ∷ own caller (placed_from (at + 1) es) else own caller (placed_from (at + 1) es)) is ∙ rest
 
-all_called : (n : ℕ) (es : List Entry) → AreOfWorkers n es → AreCalled n es
+pub all_called : (n : ℕ) (es : List Entry) → AreOfWorkers n es → AreCalled n es
 all_called n [] h = tt
 all_called n (e ∷ es) h =
     (let low = h.0.0 in let high = h.0.1 in record { low = low; high = omega (arith, low, high) }, all_called n es h.1)

@@ -1,0 +1,11 @@
+pub mod Places
+pub mod Steps
+pub mod Filling
+pub mod Ending
+pub mod Making
+pub mod Counting
+pub mod Slots
+pub mod Done
+pub mod Whose
+pub mod Boards
+pub mod Together

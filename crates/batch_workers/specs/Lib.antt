@@ -1,0 +1,4 @@
+pub mod Parts
+pub mod Toils
+pub mod Stints
+pub mod Teams
