@@ -1,9 +1,9 @@
 -- An opening that was begun can be prepared.
-use Rattle.std.proofs.Common.{◌≡◌, ◌⊎◌, ℕ, ◌+◌, ◌-◌, ◌≤◌, ◌<◌, eqb, eqb-true, Bool, true, false, ◌||◌, List, [], ◌∷◌, ◌++◌, length, map, sym, refl, ap, ◌∙◌, subst, arith, inl, inr, ⊎_elim, true≢false, string_bytes}
+use Rattle.std.proofs.Common.{◌≡◌, ℕ, ◌+◌, ◌-◌, ◌≤◌, eqb, eqb-true, Bool, true, false, ◌||◌, List, [], ◌∷◌, ◌++◌, length, map, sym, refl, ap, ◌∙◌, subst, arith, inl, inr, ⊎_elim, true≢false, string_bytes}
 use Rattle.std.specs.List.{AllByRecursion}
 use Rattle.std.specs.declared.vec.Vec.{Vec}
 use Rattle.std.specs.declared.alloc.Global.{Global}
-use Rattle.code_pairs.specs.Tables.{Tables, HasPoints}
+use Rattle.code_pairs.specs.Tables.{HasPoints}
 use Rattle.code_table.specs.declared.image.Layout.{Layout}
 use Rattle.module_graph.specs.Graph.{Shape}
 use Rattle.history_core.specs.History.{History}
@@ -12,8 +12,8 @@ use Rattle.runtime_histories.specs.declared.entries.Entry.{Entry}
 use Rattle.runtime_histories.specs.declared.refusals.Asked.{Asked}
 use Rattle.runtime_histories.specs.Deeds.{Deeds, Loaded, marks, IsIn}
 use Rattle.runtime_histories.specs.Entries.{deeds}
-use Rattle.runtime_histories.specs.Legal.{IsAnswered, IsOpened, absent_among, loaded_modules, load_pages}
-use Rattle.runtime_histories.specs.Places.{Placed, among, pages_for, all_needs, free, placed_at, place_loads, places}
+use Rattle.runtime_histories.specs.Legal.{IsAnswered, absent_among, loaded_modules, load_pages}
+use Rattle.runtime_histories.specs.Places.{Placed, among, pages_for, all_needs, placed_at, place_loads, places}
 use Rattle.runtime_histories.specs.Residence.{resident}
 use Rattle.runtime_histories.specs.Settings.{Setting}
 use Rattle.runtime_histories.proofs.Pinning.{absent_not_resident}
@@ -25,7 +25,7 @@ use Rattle.pair_openings.specs.Entered.{HasBegun}
 use Rattle.pair_openings.specs.declared.begun.Begun.{Begun}
 use Rattle.conversion_book.proofs.Booking.{IsOpeningOf, opening_of_names, opening_led}
 use Rattle.runtime_room.specs.Apart.{IsOrdered, AreGood, all_join, good_loads}
-use Rattle.runtime_room.specs.Desks.{IsDeskOf, IsLaidOut}
+use Rattle.runtime_room.specs.Desks.{IsDeskOf}
 use Rattle.runtime_room.specs.Grounds.{Ground}
 use Rattle.runtime_room.specs.Held.{ordered}
 use Rattle.runtime_room.specs.Rooms.{IsHistory, IsOfPoints, entries_of, deeds_of}

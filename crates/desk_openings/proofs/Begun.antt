@@ -1,5 +1,5 @@
 -- What a refusal leaves of the library.
-use Rattle.std.proofs.Common.{◌≡◌, ℕ, ◌≤◌, List, refl, subst, sym, ap, arith}
+use Rattle.std.proofs.Common.{◌≡◌, ℕ, ◌≤◌, List, ap, arith}
 use Rattle.outside.specs.Moments.{Holdings}
 use Rattle.module_counts.specs.Counting.{Booked}
 use Rattle.pair_openings.specs.Answers.{Loses}

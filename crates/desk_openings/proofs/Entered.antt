@@ -1,9 +1,9 @@
 -- An opening that was prepared is entered.
-use Rattle.std.proofs.Common.{◌≡◌, ◌⊎◌, ℕ, ◌+◌, ◌*◌, ◌<◌, ◌≤◌, ◌^◌, ◌-◌, min, eqb, Bool, true, false, List, [], ◌∷◌, ◌++◌, length, map, Option, Some, None, sym, refl, ap, ◌∙◌, subst, arith, string_bytes, suc}
-use Rattle.std.specs.List.{filter, flat_map, AllByRecursion}
+use Rattle.std.proofs.Common.{◌≡◌, ◌⊎◌, ℕ, ◌+◌, ◌<◌, ◌≤◌, true, false, List, [], ◌∷◌, ◌++◌, length, Some, sym, refl, ap, ◌∙◌, subst, arith, string_bytes, suc}
+use Rattle.std.specs.List.{flat_map, AllByRecursion}
 use Rattle.std.specs.declared.vec.Vec.{Vec}
 use Rattle.std.specs.declared.alloc.Global.{Global}
-use Rattle.code_pairs.specs.Tables.{Table, Tables, HasPoints}
+use Rattle.code_pairs.specs.Tables.{Tables}
 use Rattle.code_table.specs.declared.image.Layout.{Layout}
 use Rattle.chain_recipes.specs.Recipes.{recipe_for}
 use Rattle.chain_steps.specs.Chains.{CanRun}
@@ -11,34 +11,30 @@ use Rattle.chain_steps.specs.declared.recipe.Recipe.{Recipe}
 use Rattle.module_graph.specs.Graph.{Shape}
 use Rattle.history_core.specs.History.{History}
 use Rattle.history_core.specs.Rule.{last_fill}
-use Rattle.outside.specs.Faults.{RoseBy, Rose}
+use Rattle.outside.specs.Faults.{RoseBy}
 use Rattle.outside.specs.Moments.{Holdings}
-use Rattle.page_store.specs.Holdings.{Holding}
 use Rattle.page_store.specs.declared.pin.Pin.{Pin}
 use Rattle.runtime_histories.specs.declared.entries.Entry.{Entry}
-use Rattle.runtime_histories.specs.declared.entries.Event.TheVariants as events
-use Rattle.runtime_histories.specs.declared.entries.Reply.TheVariants.{Opened, Refused}
 use Rattle.runtime_histories.specs.declared.refusals.Asked.{Asked}
-use Rattle.runtime_histories.specs.declared.refusals.Refusal.{Refusal}
 use Rattle.runtime_histories.specs.Charmaps.{AreTablesOf}
-use Rattle.runtime_histories.specs.Deeds.{Act, act, Deed, opens, rests, Deeds, Desc, Pair, Loaded, marks, openings, desc_at, closed, names, IsIn}
+use Rattle.runtime_histories.specs.Deeds.{act, opens, Deeds, Desc, Pair, Loaded, marks, openings, desc_at, closed, IsIn}
 use Rattle.runtime_histories.specs.Entries.{deeds, deed_of}
 use Rattle.runtime_histories.specs.Fair.{IsBalanced}
 use Rattle.runtime_histories.specs.Legal.{Next, loaded_modules}
 use Rattle.runtime_histories.specs.Pins.{live_of}
-use Rattle.runtime_histories.specs.Places.{Placed, among, place_loads, place_deed, places}
+use Rattle.runtime_histories.specs.Places.{Placed, among, place_loads, places}
 use Rattle.runtime_histories.specs.Residence.{resident}
 use Rattle.runtime_histories.specs.Settings.{Setting, modules_of, charmaps_at}
 use Rattle.runtime_histories.proofs.Legality.{sound_legal, length-deeds}
 use Rattle.runtime_histories.proofs.Pinning.{places-snoc}
-use Rattle.module_counts.specs.Stocks.{lists, places_for}
+use Rattle.module_counts.specs.Stocks.{lists}
 use Rattle.pair_openings.specs.Answers.{reply_of}
 use Rattle.pair_openings.specs.Entered.{entry_of}
 use Rattle.pair_openings.specs.declared.begun.Begun.{Begun}
 use Rattle.conversion_book.proofs.Booking.{IsOpeningOf, deed_opens}
 use Rattle.conversion_book.proofs.Charting.{chain_runs}
 use Rattle.runtime_room.specs.Apart.{AreGood, all_join, all_filter}
-use Rattle.runtime_room.specs.Desks.{IsDeskOf, IsLaidOut, layout_of, layouts_at, blame, blamed_in}
+use Rattle.runtime_room.specs.Desks.{IsDeskOf, IsLaidOut, blame, blamed_in}
 use Rattle.runtime_room.specs.Grounds.{Ground}
 use Rattle.runtime_room.specs.Puts.{IsPut, all_parts, Fit, joined}
 use Rattle.runtime_room.specs.Rooms.{IsHistory, LoadsPoints, entries_of, deeds_of, pinned}
@@ -46,7 +42,6 @@ use Rattle.runtime_room.specs.declared.desk.Desk.{Desk}
 use Rattle.runtime_room.specs.declared.desk.Noted.{Noted}
 use Rattle.runtime_room.proofs.Acts.{entries-snoc, deeds_of-snoc, history_next, covered_entry, blame-snoc}
 use Rattle.runtime_room.proofs.Covering.{DeedPut, AreNew, new_fit, new_pages, tables_in}
-use Rattle.desk_openings.specs.Beginnings.{KeepsDesk}
 use Rattle.desk_openings.specs.Entering.{EntersOn}
 use Rattle.desk_openings.specs.Layouts.{KeepsLayouts, AreKept}
 use Rattle.desk_openings.specs.Parts.{parts_for, tables_for, AreThere, ArePinsOf}
@@ -54,7 +49,7 @@ use Rattle.desk_openings.specs.Preparing.{loads_of, all_places, LaysOut, IsReady
 use Rattle.desk_openings.specs.declared.preparing.Ready.{Ready}
 use Rattle.desk_openings.proofs.Answered.{ground_at, IsBegun, held, answered, by_names, in_order, some_room, are_placed, are_absent, are_there, are_of_points, are_good}
 use Rattle.desk_openings.proofs.LiveOnes.{new_desc, new_live, new_count, new_found, closed_same, module_among, all_from, live_resident, HaveSame, places_same, parts_same, there_same}
-use Rattle.desk_openings.proofs.Texts.{IsReadAt, legal_read, read_loads, chain_read}
+use Rattle.desk_openings.proofs.Texts.{legal_read, chain_read}
 
 -- An opening that was begun over a desk has been prepared.
 pub record IsPrepared {L : Type 0} (holdings : L → Holdings) (a b c : Desk L) (log : History Noted) (from to : Asked) (o : Begun) (r : Ready) : Type 0 where

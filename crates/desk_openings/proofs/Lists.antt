@@ -1,13 +1,13 @@
 -- Numbers of lists, and places of modules.
-use Rattle.std.proofs.Common.{◌≡◌, ◌≢◌, ◌⊎◌, ℕ, eqb, Bool, true, false, not, ◌||◌, cond, List, [], ◌∷◌, ◌++◌, map, Option, Some, None, sym, refl, ap, ◌∙◌, subst, inl, inr, ⊎_elim, true≢false, eq-eqb, eqb-true, ne_eqb, append-nil, append_assoc}
+use Rattle.std.proofs.Common.{◌≡◌, ◌⊎◌, ℕ, eqb, Bool, true, false, not, ◌||◌, cond, List, [], ◌∷◌, ◌++◌, Option, Some, None, sym, refl, ap, ◌∙◌, subst, inl, inr, ⊎_elim, true≢false, eq-eqb, eqb-true, ne_eqb, append-nil, append_assoc}
 use Rattle.std.specs.List.{list_any, filter, AllByRecursion}
 use Rattle.module_graph.specs.Numbers.{with_new}
-use Rattle.runtime_histories.specs.Deeds.{Deeds, Act, Loaded, IsIn, marks}
+use Rattle.runtime_histories.specs.Deeds.{Deeds, Loaded, marks}
 use Rattle.runtime_histories.specs.Legal.{absent_among, loaded_modules}
 use Rattle.runtime_histories.specs.Places.{Placed, among, placed_at, place_loads, place_deed, still, places_from, places}
 use Rattle.runtime_histories.specs.Residence.{resident}
 use Rattle.runtime_histories.proofs.Basics.{any-append}
-use Rattle.desk_openings.specs.Parts.{place_of, IsThere, AreThere}
+use Rattle.desk_openings.specs.Parts.{place_of, IsThere}
 
 pub or_true : (a b : Bool) → (a || b) ≡ true → (a ≡ true) ⊎ (b ≡ true)
 or_true true b e = inl refl

@@ -1,9 +1,9 @@
 -- The live descriptors of a caller after one entry more.
-use Rattle.std.proofs.Common.{◌≡◌, ℕ, zero, suc, ◌+◌, ◌<◌, eqb, Bool, true, false, not, ◌&&◌, ◌||◌, cond, List, [], ◌∷◌, ◌++◌, length, Option, Some, sym, refl, ap, ◌∙◌, subst, arith, inl, inr, true≢false, eq-eqb, append-nil, length-append}
-use Rattle.std.specs.List.{filter, list_any, AllByRecursion}
-use Rattle.runtime_histories.specs.Deeds.{Act, act, Deed, opens, closes, rests, Deeds, Desc, Pair, Loaded, openings, closed, names, desc_at, marks, IsIn}
+use Rattle.std.proofs.Common.{◌≡◌, ℕ, zero, suc, ◌+◌, ◌<◌, eqb, Bool, true, false, not, ◌&&◌, ◌||◌, cond, List, [], ◌∷◌, ◌++◌, length, Some, sym, refl, ap, ◌∙◌, subst, arith, inl, inr, eq-eqb, append-nil, length-append}
+use Rattle.std.specs.List.{filter, AllByRecursion}
+use Rattle.runtime_histories.specs.Deeds.{Act, act, opens, rests, Deeds, Desc, Pair, Loaded, openings, closed, names, desc_at, marks, IsIn}
 use Rattle.runtime_histories.specs.Fair.{IsBalanced}
-use Rattle.runtime_histories.specs.Pins.{live_of, holds}
+use Rattle.runtime_histories.specs.Pins.{live_of}
 use Rattle.runtime_histories.specs.Places.{Placed, among, place_deed, places}
 use Rattle.runtime_histories.specs.Residence.{resident}
 use Rattle.runtime_histories.proofs.Basics.{or-false, openings-append, closed-append, filter-append, filter-same, any-in, number_once, pair_found}

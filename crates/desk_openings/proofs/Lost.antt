@@ -1,5 +1,5 @@
 -- An opening that is refused, or is lost.
-use Rattle.std.proofs.Common.{◌≡◌, ◌⊎◌, ℕ, ◌+◌, ◌≤◌, ◌-◌, ◌^◌, min, true, false, List, [], ◌∷◌, ◌++◌, length, Some, sym, refl, ap, ◌∙◌, subst, arith, string_bytes}
+use Rattle.std.proofs.Common.{◌≡◌, ◌⊎◌, ℕ, ◌+◌, ◌≤◌, false, List, [], ◌∷◌, ◌++◌, Some, sym, refl, ap, ◌∙◌, subst, arith, string_bytes}
 use Rattle.std.specs.List.{AllByRecursion}
 use Rattle.std.specs.declared.vec.Vec.{Vec}
 use Rattle.std.specs.declared.alloc.Global.{Global}
@@ -7,7 +7,7 @@ use Rattle.code_table.specs.declared.image.Layout.{Layout}
 use Rattle.module_graph.specs.Graph.{Shape}
 use Rattle.history_core.specs.History.{History}
 use Rattle.history_core.specs.Rule.{last_fill}
-use Rattle.outside.specs.Faults.{RoseBy, Rose}
+use Rattle.outside.specs.Faults.{RoseBy}
 use Rattle.outside.specs.Moments.{Holdings}
 use Rattle.runtime_histories.specs.declared.entries.Entry.{Entry}
 use Rattle.runtime_histories.specs.declared.entries.Reply.TheVariants as replies
@@ -25,7 +25,6 @@ use Rattle.pair_openings.specs.Plans.{IsBlamed}
 use Rattle.pair_openings.specs.declared.begun.Begun.{Begun}
 use Rattle.conversion_book.proofs.Booking.{deed_rests}
 use Rattle.runtime_room.specs.Desks.{IsDeskOf, IsLaidOut, blame, blames, blamed_in}
-use Rattle.runtime_room.specs.Grounds.{Ground}
 use Rattle.runtime_room.specs.Rooms.{IsHistory, LoadsPoints, entries_of, deeds_of, pinned}
 use Rattle.runtime_room.specs.declared.desk.Desk.{Desk}
 use Rattle.runtime_room.specs.declared.desk.Noted.{Noted}
@@ -99,7 +98,7 @@ module _ {L : Type 0} (holdings : L → Holdings) (a b : Desk L) (log : History 
       let none : LoadsNone a.counts.pages (deed_of e.entry.value.event) = subst (LoadsNone a.counts.pages) (sym deed) (λ held. refl) in
       let all = laid_out_next a.counts.pages a.layouts.items log n e none is.stands.layouts in
       let more : blame (entries_of after) ≡ blame (entries_of log) + blames why =
-          ap blame (entries-snoc log n e) ∙ (blame-snoc (entries_of log) e.entry.value ∙ ap (λ (v : Entry). blame (entries_of log) + blamed_in v.event) is.refusal.entry) in
+      ap blame (entries-snoc log n e) ∙ (blame-snoc (entries_of log) e.entry.value ∙ ap (λ (v : Entry). blame (entries_of log) + blamed_in v.event) is.refusal.entry) in
       record {
         journal = enters.journal ∙ (ap (λ (j : List Entry). j ++ entry_of n from to (replies.Refused why) ∷ []) is.stands.journal
             ∙ (ap (λ (v : Entry). entries_of log ++ v ∷ []) (sym is.refusal.entry) ∙ sym (entries-snoc log n e)));

@@ -1,6 +1,6 @@
 -- The pins of a chain are those of the tables of its modules.
-use Rattle.std.proofs.Common.{◌≡◌, ◌⊎◌, ℕ, suc, zero, ◌+◌, ◌<◌, ◌≤◌, eqb, eqb-true, eq-eqb, Bool, true, false, ◌||◌, cond, List, [], ◌∷◌, ◌++◌, length, map, take, drop, Option, Some, None, sym, refl, ap, ◌∙◌, subst, inl, inr, ⊎_elim, true≢false, arith, append_assoc, append-nil, get_or}
-use Rattle.std.specs.List.{flat_map, AllByRecursion}
+use Rattle.std.proofs.Common.{◌≡◌, ℕ, suc, zero, ◌+◌, ◌<◌, eqb, eqb-true, Bool, true, false, ◌||◌, cond, List, [], ◌∷◌, ◌++◌, length, map, take, drop, Option, Some, None, sym, refl, ap, ◌∙◌, subst, ⊎_elim, true≢false, arith, append_assoc, append-nil, get_or}
+use Rattle.std.specs.List.{AllByRecursion}
 use Rattle.std.specs.Option.{option_map}
 use Rattle.std.specs.declared.vec.Vec.{Vec}
 use Rattle.std.specs.declared.alloc.Global.{Global}
@@ -16,7 +16,7 @@ use Rattle.runtime_histories.specs.declared.loads.Load.{Load}
 use Rattle.runtime_histories.specs.Deeds.{Loaded, marks}
 use Rattle.runtime_histories.specs.Entries.{deeds, loaded_of}
 use Rattle.runtime_histories.specs.Legal.{loaded_modules}
-use Rattle.runtime_histories.specs.Places.{Placed, among, pages_for, pages_of, all_pages, lowest, placed_at, place_loads, places}
+use Rattle.runtime_histories.specs.Places.{Placed, among, pages_for, pages_of, placed_at, place_loads, places}
 use Rattle.runtime_histories.specs.Residence.{resident}
 use Rattle.runtime_room.specs.Desks.{layout_of, layouts_at, IsLaidOut}
 use Rattle.runtime_room.specs.Rooms.{parts}
@@ -25,7 +25,7 @@ use Rattle.desk_openings.specs.Parts.{place_of, parts_at, parts_for, IsThere, Ar
 use Rattle.desk_openings.specs.Pinning.{Shown, shown, layout_pages, cut_pins, given_to, or_pages, chosen_pages, pins_for, CanPin}
 use Rattle.module_counts.proofs.Tidying.{length-places_for}
 use Rattle.desk_openings.proofs.Keeping.{length-loaded}
-use Rattle.desk_openings.proofs.Lists.{or_left, or_right, or_false, cases}
+use Rattle.desk_openings.proofs.Lists.{or_false, cases}
 
 -- What the pin of a held table says.
 abbrev pub shown_of : Holding → Shown
@@ -166,7 +166,7 @@ pinned_pins layouts pages all [] h = refl
 pinned_pins layouts pages all (m ∷ ms) h =
     let i = h.0 in
     let one : cut_pins (layouts_at layouts m) (pages m) ≡ map shown_of (parts_at (place_of all m)) =
-        (λ k. cut_pins (i.images k) (i.pages_are k)) ∙ (cut_are i.place.tables i.place.pages ∙ ap (λ (o : Option Placed). map shown_of (parts_at o)) (sym i.there)) in
+    (λ k. cut_pins (i.images k) (i.pages_are k)) ∙ (cut_are i.place.tables i.place.pages ∙ ap (λ (o : Option Placed). map shown_of (parts_at o)) (sym i.there)) in
     (λ k. one k ++ pinned_pins layouts pages all ms h.1 k) ∙ sym (map-append shown_of (parts_at (place_of all m)) (parts_for all ms))
 
 some_place : (o : Option Placed) → IsThere o → (x : Placed) × (o ≡ Some x)
@@ -246,12 +246,14 @@ pub can_pins : (layouts : List (Vec Layout Global)) (c : Booked) (loads : List L
     → AllByRecursion (λ (m : ℕ). IsPinned layouts (chosen_pages c loads ps m) all m) ms → AllByRecursion (CanPin layouts c loads ps) ms
 can_pins layouts c loads ps all [] same res h = tt
 can_pins layouts c loads ps all (m ∷ ms) same res h =
-    let i = h.0 in
-    (record {
-      there = λ e. res.0 (given_some m loads ps same e);
-      enough = (let a : layout_pages (layouts_at layouts m) ≡ pages_for i.place.tables = ap layout_pages i.images ∙ images_pages i.place.tables in
-          let b : length (chosen_pages c loads ps m) ≡ length i.place.pages = ap length i.pages_are in let f = i.fits in omega arith);
-    }, can_pins layouts c loads ps all ms same res.1 h.1)
+    let i = h.0 in (
+      record {
+        there = λ e. res.0 (given_some m loads ps same e);
+        enough = (let a : layout_pages (layouts_at layouts m) ≡ pages_for i.place.tables = ap layout_pages i.images ∙ images_pages i.place.tables in
+            let b : length (chosen_pages c loads ps m) ≡ length i.place.pages = ap length i.pages_are in let f = i.fits in omega arith);
+      },
+      can_pins layouts c loads ps all ms same res.1 h.1,
+    )
 
 lists_here : (vs : List (Vec ℕ Global)) (k : ℕ) (v : Vec ℕ Global) → k < length vs → get_or vs k v ≡ v → drop k (lists vs) ≡ v.items ∷ drop (k + 1) (lists vs)
 lists_here [] k v lt e = absurd (omega arith)

@@ -1,16 +1,13 @@
 -- After a legal history each resident module has a place.
-use Rattle.std.proofs.Common.{◌≡◌, ◌⊎◌, ℕ, Bool, true, false, List, [], ◌∷◌, ◌++◌, map, sym, refl, ap, ◌∙◌, subst, inl, inr, ⊎_elim, true≢false}
-use Rattle.std.specs.List.{AllByRecursion}
+use Rattle.std.proofs.Common.{◌≡◌, ◌⊎◌, ℕ, true, List, [], ◌∷◌, ◌++◌, map, sym, refl, ap, ◌∙◌, subst, inl, inr, ⊎_elim, true≢false}
 use Rattle.runtime_histories.specs.declared.entries.Entry.{Entry}
 use Rattle.runtime_histories.specs.declared.entries.Event.{Event}
 use Rattle.runtime_histories.specs.declared.entries.Event.TheVariants.{Opening, Closing}
-use Rattle.runtime_histories.specs.declared.entries.Reply.{Reply}
 use Rattle.runtime_histories.specs.declared.entries.Reply.TheVariants.{Opened, Refused}
-use Rattle.runtime_histories.specs.declared.refusals.Asked.{Asked}
 use Rattle.runtime_histories.specs.declared.refusals.Asked.TheVariants.{Good, Bad}
-use Rattle.runtime_histories.specs.Deeds.{Deed, Deeds, Act, Mark, act, opens, closes, rests, Pair, Loaded, marks}
-use Rattle.runtime_histories.specs.Entries.{deeds, deed_of, loaded_of, opening_of}
-use Rattle.runtime_histories.specs.Legal.{IsNext, Next, Legal, LegalFrom, absent_among, loaded_modules}
+use Rattle.runtime_histories.specs.Deeds.{Deeds, Act, Mark, act, opens, closes, rests, Pair, Loaded, marks}
+use Rattle.runtime_histories.specs.Entries.{deeds, deed_of, loaded_of}
+use Rattle.runtime_histories.specs.Legal.{IsNext, Legal, LegalFrom, absent_among, loaded_modules}
 use Rattle.runtime_histories.specs.Places.{Placed, among, place_loads, place_deed, places}
 use Rattle.runtime_histories.specs.Residence.{resident}
 use Rattle.runtime_histories.specs.Settings.{Setting}
@@ -20,7 +17,7 @@ use Rattle.runtime_histories.proofs.Pinning.{places-snoc}
 use Rattle.module_counts.proofs.Living.{marks_rests}
 use Rattle.conversion_book.proofs.Residing.{resident_opens, resident_closes}
 use Rattle.desk_openings.specs.Parts.{place_of, IsThere}
-use Rattle.desk_openings.proofs.Lists.{or_true, cases, absent_there, place_filter, there_loads}
+use Rattle.desk_openings.proofs.Lists.{cases, absent_there, place_filter, there_loads}
 
 -- Each resident module has a place.
 abbrev pub HasPlaces : ℕ → Deeds → Type 0
@@ -37,7 +34,7 @@ pub opens_there : (pages : ℕ) (b : Deeds) (ms : List ℕ) (l : List Loaded) �
 opens_there pages b ms l has is m h = ⊎_elim
     (λ r. there_loads pages m l (places pages b) (inl (has m r)))
     (λ r. ⊎_elim (λ e. there_loads pages m l (places pages b) (inr (ap (among m) is ∙ absent_there b m ms e r)))
-        (λ e. absurd (true≢false (sym e ∙ r))) h)
+    (λ e. absurd (true≢false (sym e ∙ r))) h)
     (cases (resident (marks b) m))
 
 next : (s : Setting) (b : List Entry) (c : ℕ) (v : Event) → IsSound s.first.graph (deeds b) → IsNext s b c v → HasPlaces s.pages (deeds b) → HasPlaces s.pages (deeds b ++ act c (deed_of v) ∷ [])

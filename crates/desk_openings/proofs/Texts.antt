@@ -1,10 +1,10 @@
 -- After a legal history the tables of each resident module are those of its charmaps.
-use Rattle.std.proofs.Common.{◌≡◌, ◌⊎◌, ℕ, eqb, eqb-true, Bool, true, false, cond, List, [], ◌∷◌, ◌++◌, map, Option, Some, None, sym, refl, ap, ◌∙◌, subst, append-nil, append_assoc}
-use Rattle.std.specs.List.{filter, flat_map, AllByRecursion}
+use Rattle.std.proofs.Common.{◌≡◌, ℕ, eqb, eqb-true, Bool, true, false, cond, List, [], ◌∷◌, ◌++◌, map, Some, sym, refl, ap, subst, append-nil, append_assoc}
+use Rattle.std.specs.List.{flat_map, AllByRecursion}
 use Rattle.std.proofs.lemmas.List.{map-append}
 use Rattle.code_pairs.specs.Tables.{Table, Tables}
 use Rattle.code_table.specs.Images.{page_count}
-use Rattle.std.specs.Prelude.{take, drop}
+use Rattle.std.specs.Prelude.{drop}
 use Rattle.module_graph.specs.Graph.{Shape}
 use Rattle.page_store.specs.Holdings.{Holding}
 use Rattle.runtime_histories.specs.declared.entries.Entry.{Entry}
@@ -15,7 +15,7 @@ use Rattle.runtime_histories.specs.declared.refusals.Asked.TheVariants.{Good, Ba
 use Rattle.runtime_histories.specs.Charmaps.{AreTablesOf}
 use Rattle.runtime_histories.specs.Deeds.{Deeds, Act, act, Loaded, marks}
 use Rattle.runtime_histories.specs.Entries.{deeds, deed_of, loaded_of}
-use Rattle.runtime_histories.specs.Legal.{IsNext, Next, Legal, LegalFrom, AreRead}
+use Rattle.runtime_histories.specs.Legal.{IsNext, Legal, LegalFrom, AreRead}
 use Rattle.runtime_histories.specs.Places.{Placed, placed_at, place_loads, place_deed, places}
 use Rattle.runtime_histories.specs.Residence.{resident}
 use Rattle.runtime_histories.specs.Settings.{Setting, Source, charmaps_at}

@@ -5,7 +5,6 @@ use Rattle.std.specs.declared.vec.Vec.{Vec}
 use Rattle.std.specs.declared.alloc.Global.{Global}
 use Rattle.code_table.specs.declared.image.Layout.{Layout}
 use Rattle.runtime_histories.specs.Deeds.{Loaded}
-use Rattle.runtime_histories.specs.Legal.{loaded_modules}
 use Rattle.runtime_histories.specs.Places.{among}
 use Rattle.runtime_room.specs.Desks.{layout_of, layouts_at}
 

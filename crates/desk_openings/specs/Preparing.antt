@@ -1,5 +1,5 @@
 -- What an opening that was begun needs besides its entry.
-use Rattle.std.specs.Prelude.{◌≡◌, ◌≤◌, ℕ, true, false, List, map, Some, length}
+use Rattle.std.specs.Prelude.{◌≡◌, ℕ, true, false, List, map, Some, length}
 use Rattle.std.specs.List.{AllByRecursion}
 use Rattle.std.specs.declared.vec.Vec.{Vec}
 use Rattle.std.specs.declared.alloc.Global.{Global}

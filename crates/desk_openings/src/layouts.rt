@@ -29,11 +29,7 @@ fn all_parts(alloc: Global, tables: &[CodeTable]) -> Result<Vec<Layout>, AllocEr
 }
 
 /// Makes the list so long, by modules of which nothing is kept.
-fn lengthen(
-    alloc: Global,
-    layouts: &mut Vec<Vec<Layout>>,
-    count: usize,
-) -> Result<(), AllocError>
+fn lengthen(alloc: Global, layouts: &mut Vec<Vec<Layout>>, count: usize) -> Result<(), AllocError>
     ensures same { (m : ℕ) → layouts_at layouts.new.items m ≡ layouts_at layouts.old.items m }
     ensures long { OnOk result (count ≤ length layouts.new.items) }
 {

@@ -1,5 +1,5 @@
 -- What an opening under a turn leaves its caller.
-use Rattle.std.proofs.Common.{◌≡◌, ◌≢◌, ◌⊎◌, ℕ, zero, suc, ◌+◌, ◌*◌, ◌<◌, ◌≤◌, ◌^◌, eqb, Bool, true, false, not, ◌&&◌, cond, List, [], ◌∷◌, ◌++◌, length, map, Option, Some, None, sym, refl, ap, ◌∙◌, subst, arith, append-nil, append_assoc, length-append, true≢false, string_bytes}
+use Rattle.std.proofs.Common.{◌≡◌, ◌⊎◌, ℕ, suc, ◌+◌, ◌*◌, ◌<◌, ◌≤◌, ◌^◌, eqb, Bool, true, false, not, ◌&&◌, cond, List, [], ◌∷◌, ◌++◌, length, Some, None, sym, refl, ap, ◌∙◌, subst, arith, append_assoc, length-append, true≢false, string_bytes}
 use Rattle.std.specs.List.{filter, flat_map, AllByRecursion}
 use Rattle.chain_recipes.specs.Recipes.{recipe_for}
 use Rattle.chain_steps.specs.Chains.{CanRun}
@@ -12,50 +12,48 @@ use Rattle.history_core.specs.declared.story.Story.{Ghosts}
 use Rattle.history_core.specs.declared.tokens.Hall.{Hall}
 use Rattle.history_core.specs.declared.tokens.Pass.{Pass}
 use Rattle.outside.specs.Moments.{Holdings}
-use Rattle.page_store.specs.Holdings.{IsWithin}
 use Rattle.runtime_histories.specs.declared.entries.Entry.{Entry}
 use Rattle.runtime_histories.specs.declared.entries.Reply.TheVariants as replies
 use Rattle.runtime_histories.specs.declared.refusals.Asked.{Asked}
 use Rattle.runtime_histories.specs.declared.refusals.Refusal.{Refusal}
 use Rattle.runtime_histories.specs.declared.refusals.Refusal.TheVariants.{BadName, NoConversion, LibraryFault, NoCharmap, BadCharmap, StoreFull, JournalFull, Memory}
 use Rattle.runtime_histories.specs.Charmaps.{AreTablesOf}
-use Rattle.runtime_histories.specs.Deeds.{Deed, opens, closes, rests, Deeds, Desc, opened, openings, closed, desc_at, live, IsIn}
+use Rattle.runtime_histories.specs.Deeds.{Deed, opens, closes, rests, Deeds, Desc, opened, openings, closed, live, IsIn}
 use Rattle.runtime_histories.specs.Entries.{deeds}
 use Rattle.runtime_histories.specs.Legal.{IsAnswered, loaded_modules}
 use Rattle.runtime_histories.specs.Pins.{live_of}
-use Rattle.runtime_histories.specs.Places.{Placed, among, all_pages, places}
+use Rattle.runtime_histories.specs.Places.{Placed, among, places}
 use Rattle.runtime_histories.specs.Settings.{charmaps_at}
 use Rattle.module_counts.specs.Counting as counting
 use Rattle.module_counts.specs.Stocks.{Once, lists}
 use Rattle.pair_openings.specs.Answers as answers
 use Rattle.pair_openings.specs.Asking.{asked_of}
-use Rattle.pair_openings.specs.Entered.{HasBegun, IsNextIn, Stays, entry_of}
+use Rattle.pair_openings.specs.Entered.{HasBegun, IsNextIn, entry_of}
 use Rattle.pair_openings.specs.declared.begun.Begun.{Begun}
 use Rattle.runtime_room.specs.Apart.{Share}
 use Rattle.runtime_room.specs.Desks.{IsDeskOf}
 use Rattle.runtime_room.specs.Grounds.{Ground}
 use Rattle.runtime_room.specs.Puts.{IsPut, all_parts, Fit, joined, IsFreePage, CanPut}
-use Rattle.runtime_room.specs.Rooms.{IsHistory, entries_of, deeds_of, pinned}
+use Rattle.runtime_room.specs.Rooms.{IsHistory, deeds_of, pinned}
 use Rattle.runtime_room.specs.declared.desk.Desk.{Desk}
 use Rattle.runtime_room.specs.declared.desk.Noted.{Noted}
 use Rattle.runtime_room.specs.declared.story.Room.{Room}
-use Rattle.runtime_room.proofs.Covering.{AreNew, none_pinned}
+use Rattle.runtime_room.proofs.Covering.{AreNew}
 use Rattle.desk_openings.specs.Beginnings.{has_entry, KeepsDesk, IsRefusal}
 use Rattle.desk_openings.specs.Entering.{EntersOn}
 use Rattle.desk_openings.specs.Parts.{parts_for, tables_for, AreThere, ArePinsOf}
 use Rattle.desk_openings.specs.Preparing.{loads_of, CanPrepare, LaysOut, IsReady}
 use Rattle.desk_openings.specs.declared.preparing.Ready.{Ready}
 use Rattle.desk_openings.proofs.Answered.{ground_at, IsBegun, answered, can_prepare}
-use Rattle.desk_openings.proofs.Entered.{IsPrepared, IsEntered, HasOpened, has_opened, length-entries, opening_legal, opening_covered, opening_stands, opening_ground, opening_closes, opening_count, put_new, put_fit}
+use Rattle.desk_openings.proofs.Entered.{IsPrepared, IsEntered, HasOpened, has_opened, length-entries, opening_legal, opening_covered, opening_stands, opening_closes, opening_count, put_new, put_fit}
 use Rattle.desk_openings.proofs.Lost.{IsTurnedDown, refusal_answered, refusal_legal, refusal_covered}
-use Rattle.gconv_runtime.specs.Entries.{Adds}
 use Rattle.gconv_runtime.specs.Openings.{IsOpening, IsReply, HasRoom, LacksRoom, Denies, Refuses}
 use Rattle.gconv_runtime.specs.Owning.{Owns, tables_by, desc_tables}
 use Rattle.gconv_runtime.specs.Tokens.{Knows, number, front, ground}
 use Rattle.gconv_runtime.specs.declared.tokens.Gconv.{Gconv}
 use Rattle.gconv_runtime.specs.declared.tokens.Caller.{Caller}
 use Rattle.gconv_runtime.specs.declared.tokens.Descriptor.{Descriptor}
-use Rattle.gconv_runtime.proofs.Dismissing.{live_later, still_live, live_is, owns_kept, pass_same}
+use Rattle.gconv_runtime.proofs.Dismissing.{live_later, still_live, live_is, owns_kept}
 
 -- The desk of a turn stands for the history that was seen.
 pub record AtTurn {L : Type 0} (holdings : L → Holdings) (gr : Ground) (a : Desk L) (log : History Noted) : Type 0 where
@@ -325,9 +323,10 @@ module _ {L : Type 0} {g : Ghosts (Room L) (Desk L) Noted Ground} where
   as_lost holdings gconv a before after log from to (NoCharmap m w) at ends grows r = absurd r
   as_lost holdings gconv a before after log from to (BadCharmap m w f) at ends grows r = absurd r
   as_lost holdings gconv a before after log from to (StoreFull n l) at ends grows r = absurd r
-  as_lost holdings gconv a before after log from to (JournalFull n) at ends grows r =
-      (subst (Grows (number before) (front before)) (sym ends) grows,
-      r.0 ∙ (journal_long holdings (ground gconv before) a log at ∙ ap length (sym ends)),
-      subst (LacksRoom (ground gconv before)) (sym ends) (lacks_at holdings (ground gconv before) a log at r.1))
+  as_lost holdings gconv a before after log from to (JournalFull n) at ends grows r = (
+    subst (Grows (number before) (front before)) (sym ends) grows,
+    r.0 ∙ (journal_long holdings (ground gconv before) a log at ∙ ap length (sym ends)),
+    subst (LacksRoom (ground gconv before)) (sym ends) (lacks_at holdings (ground gconv before) a log at r.1),
+  )
   as_lost holdings gconv a before after log from to Memory at ends grows r =
       (subst (Grows (number before) (front before)) (sym ends) grows, subst (HasRoom (ground gconv before)) (sym ends) (room_at holdings (ground gconv before) a log at r))

@@ -1,5 +1,5 @@
 -- What an opening does to its caller.
-use Rattle.std.specs.Prelude.{◌≡◌, ◌+◌, ◌<◌, ◌≤◌, ℕ, List, [], ◌∷◌, ◌++◌, length, Some}
+use Rattle.std.specs.Prelude.{◌≡◌, ◌+◌, ◌<◌, ◌≤◌, ℕ, List, length, Some}
 use Rattle.std.specs.List.{flat_map}
 use Rattle.chain_recipes.specs.Recipes.{recipe_for}
 use Rattle.chain_search.specs.declared.chain.Chain.{Chain}

@@ -1,5 +1,5 @@
 //! Callers are made and ended, and the runtime is closed.
-ghost use Rattle.std.specs.Prelude.{◌≡◌, ◌<◌, ◌+◌, ◌^◌, ◌∷◌, [], length, IfOk, MatchResult};
+ghost use Rattle.std.specs.Prelude.{◌≡◌, ◌≢◌, ◌<◌, ◌+◌, ◌^◌, ◌∷◌, [], length, IfOk, IfNone, IfSome, MatchResult};
 ghost use Rattle.history_core.specs.History.{EachNumber, HasEnd, AreEnded};
 ghost use Rattle.outside.specs.Faults.{RoseBy};
 ghost use Rattle.runtime_histories.specs.Pins.{live_of};
@@ -95,5 +95,31 @@ impl<L: Library> Gconv<L> {
             library,
             journal: counts.done(),
         }
+    }
+
+    /// Ends the runtime whoever is away, and hands out library and journal where the value is at home.
+    pub fn abandon(self, lead: Lead<L>) -> Option<Closed<L>>
+        requires lead { Leads self lead }
+        ensures none { IfNone result (length (away_of lead) ≢ 0) }
+        // Where nobody is away the journal is the whole history.
+        ensures journal { IfSome result (λ closed. length (away_of lead) ≡ 0
+            → closed.journal.items ≡ entries_of (lead_front lead)) }
+    {
+        let Gconv { hall } = self;
+        let Lead { lead } = lead;
+        let desk = hall.abandon(lead)?;
+        let Desk {
+            counts,
+            graph: _,
+            aliases: _,
+            library,
+            directory: _,
+            layouts: _,
+            first: _,
+        } = desk;
+        Some(Closed {
+            library,
+            journal: counts.done(),
+        })
     }
 }

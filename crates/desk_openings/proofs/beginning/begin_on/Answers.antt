@@ -1,4 +1,3 @@
-use Rattle.desk_openings.specs.Beginnings.{KeepsDesk}
 use Rattle.desk_openings.proofs.Begun.{refused_told, refused_count}
 use Rattle.std.proofs.Common.{refl}
 use Rattle.desk_openings.proofs.beginning.begin_on.Goals as goal

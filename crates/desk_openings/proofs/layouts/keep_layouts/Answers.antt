@@ -1,4 +1,4 @@
-use Rattle.std.proofs.Common.{get_or, ◌≡◌, ◌<◌, ◌∙◌, sym, ap, length, map, ℕ, arith}
+use Rattle.std.proofs.Common.{get_or, ◌≡◌, ◌<◌, ◌∙◌, ap, length, map, arith}
 use Rattle.runtime_histories.specs.declared.loads.Load.{Load}
 use Rattle.runtime_histories.specs.Entries.{loaded_of}
 use Rattle.runtime_room.specs.Desks.{layout_of}

@@ -1,4 +1,4 @@
-use Rattle.std.proofs.Common.{get_or, ◌≡◌, ◌∙◌, eq-eqb, ne_eqb, ◌+◌, ap, sym, cond, Some, Bool, Option, List, ℕ, drop}
+use Rattle.std.proofs.Common.{get_or, ◌≡◌, ◌∙◌, eq-eqb, ne_eqb, ◌+◌, ap, sym, cond, Some, Bool, List, ℕ, drop}
 use Rattle.module_counts.specs.Stocks.{lists}
 use Rattle.runtime_histories.specs.declared.loads.Load.{Load}
 use Rattle.desk_openings.specs.Pinning.{given_to}
@@ -21,6 +21,6 @@ loop-place-preserved c =
     let x : Load = get_or c.args.loads.now k c.index-loads-place.result in
     let x_is : x ≡ get_or c.args.loads.now k x = ap (λ (z : Load). get_or c.args.loads.now k z) c.index-loads-place.is in
     record {
-  same = c.loop-place.invariant.same
-      ∙ given_other c.args.«module» c.loop-place.place c.args.loads.now c.args.places.now x c.requires c.loop-place-test.true x_is (ne_eqb x.«module» c.args.«module» c.if-loads-place.false);
-}
+      same = c.loop-place.invariant.same
+          ∙ given_other c.args.«module» c.loop-place.place c.args.loads.now c.args.places.now x c.requires c.loop-place-test.true x_is (ne_eqb x.«module» c.args.«module» c.if-loads-place.false);
+    }

@@ -1,4 +1,4 @@
-use Rattle.std.proofs.Common.{sym, ap, ◌∙◌}
+use Rattle.std.proofs.Common.{◌∙◌}
 use Rattle.desk_openings.proofs.Keeping.{layouts_here, layouts_beyond}
 use Rattle.desk_openings.proofs.pins.layouts_of.Goals as goal
 

@@ -1,14 +1,14 @@
-use Rattle.std.proofs.Common.{map, ◌≡◌, ◌∙◌, sym, ap, subst, refl, length, List, ℕ}
+use Rattle.std.proofs.Common.{map, ◌∙◌, sym, ap, subst, refl, length, List, ℕ}
 use Rattle.std.specs.List.{AllByRecursion}
 use Rattle.std.specs.declared.vec.Vec.{Vec}
 use Rattle.std.specs.declared.alloc.Global.{Global}
-use Rattle.code_pairs.specs.Tables.{HasPoints, Tables}
+use Rattle.code_pairs.specs.Tables.{HasPoints}
 use Rattle.code_table.specs.declared.image.Layout.{Layout}
 use Rattle.module_counts.specs.Stocks.{lists}
 use Rattle.runtime_histories.specs.declared.loads.Load.{Load}
 use Rattle.runtime_histories.specs.Entries.{deeds, loaded_of}
 use Rattle.runtime_histories.specs.Legal.{loaded_modules}
-use Rattle.runtime_histories.specs.Places.{places, pages_of}
+use Rattle.runtime_histories.specs.Places.{places}
 use Rattle.runtime_room.specs.Desks.{layouts_at}
 use Rattle.desk_openings.specs.Layouts.{AreKept, KeepsLayouts}
 use Rattle.desk_openings.specs.Parts.{parts_for}

@@ -14,8 +14,7 @@ use Rattle.runtime_histories.specs.Pins.{live_of}
 use Rattle.runtime_histories.specs.Places.{all_pages, places}
 use Rattle.runtime_room.specs.Puts.{Fit, IsPut, all_parts, joined, CanPut}
 use Rattle.runtime_room.proofs.Covering.{none_pinned}
-use Rattle.runtime_room.specs.Desks.{IsDeskOf}
-use Rattle.runtime_room.specs.Rooms.{IsHistory, deeds_of}
+use Rattle.runtime_room.specs.Rooms.{deeds_of}
 use Rattle.desk_openings.specs.Preparing.{LaysOut, loads_of}
 use Rattle.desk_openings.proofs.Entered.{HasOpened}
 use Rattle.desk_openings.proofs.Lost.{refusal_stands, refusal_closes, refusal_live, late_stands}
@@ -445,4 +444,3 @@ returns-clause-others g c =
     let own = pass_same _ _ _ (ap (λ z. z.now) c.put_modules.ensures.same.1 ∙ c.turn-turn.ensures.same.1) c.commit-2.ensures.pass in
     others_after c.args.self.now c.args.caller.now _ log ((n, e) ∷ []) c.requires.knows same t.turn_of.legal t.grows ends own.legal
     (made_closes g.L.Library.holdings (ground c.args.self.now c.args.caller.now) a log at x y b o is d1 r p d2 n e k)
-
