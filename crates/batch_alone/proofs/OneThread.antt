@@ -50,7 +50,7 @@ history_alone s workers js ws h legal e =
 
 -- ---- the openings of a part
 
-abbrev asks : List Call → List Ask
+abbrev pub asks : List Call → List Ask
 asks cs = map (λ (c : Call). c.ask) cs
 
 ask_one : (s : Setting) (of : Ask → ℕ) (j : JobLine) (w : Work) → weight of (asks (call_of_job s j w)) ≤ of (ask_of s j)
@@ -58,7 +58,7 @@ ask_one s of j (Skipped miss) = omega arith
 ask_one s of j (Denied r) = omega arith
 ask_one s of j (Converted made) = omega arith
 
-asks_jobs : (s : Setting) (of : Ask → ℕ) (js : List JobLine) (ws : List Work) → weight of (asks (calls_of_jobs s js ws)) ≤ weight of (map (ask_of s) js)
+pub asks_jobs : (s : Setting) (of : Ask → ℕ) (js : List JobLine) (ws : List Work) → weight of (asks (calls_of_jobs s js ws)) ≤ weight of (map (ask_of s) js)
 asks_jobs s of [] ws = omega arith
 asks_jobs s of (j ∷ js) [] = omega arith
 asks_jobs s of (j ∷ js) (w ∷ ws) =
@@ -85,7 +85,7 @@ part_alone s workers k js ws h legal e = record {
 
 -- ---- the end
 
-ends_by : (t : Task) (report : Batch → Text) (old new : World) (es : List Outcome) (put answer : Sent) (h : List Entry)
+pub ends_by : (t : Task) (report : Batch → Text) (old new : World) (es : List Outcome) (put answer : Sent) (h : List Entry)
     → Finishes t report old new (cause_of es put answer) h → EndsBy t report old new (cause_of es put answer) h
 ends_by t report old new es sent.Failed answer h f = f
 ends_by t report old new es sent.Done sent.Failed h f = f

@@ -103,7 +103,7 @@ ends_from t report old mid new Memory h o e = halts_from t old mid new h o e
 
 -- ---- a run of three texts
 
-short_for : (q : Request) (old new : World) (cause : Cause) (h : List Entry) → IsUntouched old new h → cause ≡ Memory → Tells old.sink new.sink memory_line → RanFor q old new cause h
+pub short_for : (q : Request) (old new : World) (cause : Cause) (h : List Entry) → IsUntouched old new h → cause ≡ Memory → Tells old.sink new.sink memory_line → RanFor q old new cause h
 short_for q old new cause h u is told =
     let P : Cause → Type 0 = λ c. RanFor q old new c h in
     subst P (sym is) (inl (record { untouched = u; wrote = told }))
@@ -149,7 +149,7 @@ jobs_for q old mid new cause h texts p a b c d is read stands o e =
     go Memory r e = inr r
 
 -- a run that ended before its jobs left untouched what was only taken from before
-untouched_from : (old mid new : World) (h : List Entry) → OnlyTook old mid → IsUntouched mid new h → IsUntouched old new h
+pub untouched_from : (old mid new : World) (h : List Entry) → OnlyTook old mid → IsUntouched mid new h → IsUntouched old new h
 untouched_from old mid new h o u = record {
   told = u.told ∙ o.told;
   puts = u.puts ∙ o.puts;

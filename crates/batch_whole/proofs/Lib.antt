@@ -1,2 +1,3 @@
 pub mod MadeRuns
 pub mod WordRuns
+pub mod WorkersAsked

@@ -12,12 +12,15 @@ use Rattle.batch_jobs.specs.Jobs.{Text, JobLine, jobs_of}
 use Rattle.batch_jobs.specs.Generated.{Input, generated}
 use Rattle.batch_words.specs.Asked.{Generated, Request}
 use Rattle.batch_runs.specs.declared.cause.Cause.{Cause}
-use Rattle.batch_runs.specs.Batches.{World}
+use Rattle.batch_runs.specs.Batches.{World, report_by}
+use Rattle.batch_runs.specs.Endings.{EndsBy}
 use Rattle.batch_runs.specs.Lines.{memory_line}
 use Rattle.batch_runs.specs.Meanings.{IsSettingOf}
 use Rattle.batch_runs.specs.Preparing.{Prepared, StandsFor}
 use Rattle.batch_runs.specs.Runs.{IsApart, RanFor, made_folder, made_world}
-use Rattle.batch_alone.specs.Starts.{Aim, IsStarted}
+use Rattle.batch_alone.specs.Starts.{Aim, IsShort, IsStarted, task_in}
+use Rattle.batch_workers.specs.Starts.{IsStartedWith}
+use Rattle.runtime_histories.specs.Settings.{Setting}
 use Rattle.batch_alone.specs.Stops.{Tells}
 use Rattle.batch_alone.proofs.Outer.{ran_jobs}
 use Rattle.batch_whole.specs.Worlds.{world}
@@ -63,15 +66,12 @@ in_memory made a files texts f t =
     (record { told = Some x.texts; faults = 0; paths = Some x.asked }) a in
     ap F f ∙ ap T t
 
--- A run over a made input ends as its jobs do in memory, and nothing of the outside was called.
-pub made_for : (number pages : ℕ) (file : Option Text) (workers : ℕ) (files : Outside) (given : Holdings)
-    (a b : Written) (cause : Cause) (h : List Entry) (made : Input) (conf : Conf) (bound : List Binding)
-    (jobs : List JobLine) (first : World) (last : Outside) (left : Holdings) → made ≡ generated number
-    → AreMade made conf bound jobs → first ≡ made_world made a
-    → IsStarted (made_aim conf bound jobs pages file) first (world last left b) cause h
-    → NoneFailed last left
+-- A made run that wanted memory before its jobs.
+pub made_short : (number pages : ℕ) (file : Option Text) (workers : ℕ) (files : Outside) (given : Holdings)
+    (a b : Written) (cause : Cause) (h : List Entry) (made : Input) (first : World) (last : Outside) (left : Holdings)
+    → first ≡ made_world made a → IsShort first (world last left b) cause h
     → RanFor (made_request number pages file workers) (world files given a) (world files given b) cause h
-made_for number pages file workers files given a b cause h made conf bound jobs first last left is texts begins (inl s) none =
+made_short number pages file workers files given a b cause h made first last left begins s =
     let q : Request = made_request number pages file workers in
     let P : Cause → Type 0 = λ c. RanFor q (world files given a) (world files given b) c h in
     let T : World → Type 0 = λ w. Tells w.sink b memory_line in
@@ -79,21 +79,31 @@ made_for number pages file workers files given a b cause h made conf bound jobs 
       untouched = record { told = refl; puts = refl; library = refl; empty = s.untouched.empty };
       wrote = subst T begins s.told;
     }))
-made_for number pages file workers files given a b cause h made conf bound jobs first last left is texts begins (inr s) none =
+
+-- A made run whose jobs were begun.
+pub made_jobs : (number pages : ℕ) (file : Option Text) (workers : ℕ) (files : Outside) (given : Holdings)
+    (a b : Written) (cause : Cause) (h : List Entry) (made : Input) (conf : Conf) (bound : List Binding)
+    (jobs : List JobLine) (first : World) (last : Outside) (left : Holdings) (setting : Setting) → made ≡ generated number
+    → AreMade made conf bound jobs → first ≡ made_world made a
+    → IsSettingOf conf bound made_folder pages first.library.told setting
+    → EndsBy (task_in (made_aim conf bound jobs pages file) setting workers) (report_by true) first (world last left b) cause h
+    → NoneFailed last left
+    → RanFor (made_request number pages file workers) (world files given a) (world files given b) cause h
+made_jobs number pages file workers files given a b cause h made conf bound jobs first last left setting is texts begins is_setting ends none =
     let q : Request = made_request number pages file workers in
-    let p : Prepared = record { setting = s.setting; jobs = jobs } in
+    let p : Prepared = record { setting = setting; jobs = jobs } in
     let old : World = world files given a in
     let new : World = world files given b in
     let S : Input → Type 0 = λ m. StandsFor m.modules m.bindings m.jobs made_folder pages (Some m.charmaps) p in
     let A : Input → Type 0 = λ m. IsApart m old new first (world last left b) in
-    let I : World → Type 0 = λ w. IsSettingOf conf bound made_folder pages w.library.told s.setting in
+    let I : World → Type 0 = λ w. IsSettingOf conf bound made_folder pages w.library.told setting in
     let stands : S made = record {
       conf = conf;
       bound = bound;
       conf_is = texts.conf_is;
       bound_is = texts.bound_is;
       lines = texts.jobs_is;
-      setting = subst I begins s.is_setting;
+      setting = subst I begins is_setting;
     } in
     let apart : A made = record {
       begins = begins;
@@ -112,5 +122,31 @@ made_for number pages file workers files given a b cause h made conf bound jobs 
       first = first;
       last = world last left b;
       within = subst A is apart;
-      ends = s.ends workers;
+      ends = ends;
     })
+
+-- A run over a made input ends as its jobs do in memory, and nothing of the outside was called.
+pub made_for : (number pages : ℕ) (file : Option Text) (workers : ℕ) (files : Outside) (given : Holdings)
+    (a b : Written) (cause : Cause) (h : List Entry) (made : Input) (conf : Conf) (bound : List Binding)
+    (jobs : List JobLine) (first : World) (last : Outside) (left : Holdings) → made ≡ generated number
+    → AreMade made conf bound jobs → first ≡ made_world made a
+    → IsStarted (made_aim conf bound jobs pages file) first (world last left b) cause h
+    → NoneFailed last left
+    → RanFor (made_request number pages file workers) (world files given a) (world files given b) cause h
+made_for number pages file workers files given a b cause h made conf bound jobs first last left is texts begins (inl s) none =
+    made_short number pages file workers files given a b cause h made first last left begins s
+made_for number pages file workers files given a b cause h made conf bound jobs first last left is texts begins (inr s) none =
+    made_jobs number pages file workers files given a b cause h made conf bound jobs first last left s.setting is texts begins s.is_setting (s.ends workers) none
+
+-- The same with so many workers.
+pub made_with : (number pages : ℕ) (file : Option Text) (workers : ℕ) (files : Outside) (given : Holdings)
+    (a b : Written) (cause : Cause) (h : List Entry) (made : Input) (conf : Conf) (bound : List Binding)
+    (jobs : List JobLine) (first : World) (last : Outside) (left : Holdings) → made ≡ generated number
+    → AreMade made conf bound jobs → first ≡ made_world made a
+    → IsStartedWith (made_aim conf bound jobs pages file) workers first (world last left b) cause h
+    → NoneFailed last left
+    → RanFor (made_request number pages file workers) (world files given a) (world files given b) cause h
+made_with number pages file workers files given a b cause h made conf bound jobs first last left is texts begins (inl s) none =
+    made_short number pages file workers files given a b cause h made first last left begins s
+made_with number pages file workers files given a b cause h made conf bound jobs first last left is texts begins (inr s) none =
+    made_jobs number pages file workers files given a b cause h made conf bound jobs first last left s.setting is texts begins s.is_setting s.ends none

@@ -13,7 +13,7 @@ use outside::{Files, Sink, SureLibrary};
 use std::alloc::Global;
 
 /// The name of a file, if there is one.
-fn named(file: &Option<String>) -> Option<&str>
+pub fn named(file: &Option<String>) -> Option<&str>
     ensures { option_map (λ s. s.now) result ≡ option_map string_bytes file.now }
 {
     match file {

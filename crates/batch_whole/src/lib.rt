@@ -10,9 +10,11 @@ mod ends;
 mod made;
 mod made_texts;
 mod program;
+mod with_workers;
 mod words;
 
 pub use alone::run_plan;
 pub use ends::{end_memory, end_usage};
 pub use program::run;
+pub use with_workers::run_words_with_workers;
 pub use words::run_words;

@@ -1,19 +1,16 @@
 -- What stands on a board, and what was drawn from it.
-use Rattle.std.proofs.Common.{◌≡◌, ◌∙◌, ◌≤◌, ◌<◌, ◌+◌, ℕ, zero, suc, Bool, true, false, ◌||◌, List, [], ◌∷◌, ◌++◌, length, map, take, slice_index_or, Option, None, ap, sym, subst, refl, arith, add-one}
-use Rattle.std.proofs.lemmas.List.{map-append, append-nil, length-map}
-use Rattle.job_board.specs.Numbers.{AreSame, weight}
+use Rattle.std.proofs.Common.{◌≡◌, ◌∙◌, ◌≤◌, ◌<◌, ◌+◌, ℕ, zero, suc, Bool, true, false, ◌||◌, List, [], ◌∷◌, ◌++◌, length, map, take, slice_index_or, None, ap, sym, refl, arith, add-one}
+use Rattle.std.proofs.lemmas.List.{map-append, length-map}
+use Rattle.job_board.specs.Numbers.{weight}
 use Rattle.job_board.specs.Drawers.{Leaves, drawn_by, is_drained, numbers_of}
 use Rattle.job_board.specs.declared.board.Drawer.{Drawer}
 use Rattle.batch_runs.specs.Takings.{Taking, Got, Missed}
-use Rattle.batch_runs.specs.declared.misses.Miss.{Miss}
 use Rattle.batch_alone.specs.declared.inputs.Input.{Input}
-use Rattle.batch_alone.specs.declared.inputs.Input.TheVariants as input
 use Rattle.batch_alone.specs.Readings.{taking_of}
 use Rattle.batch_alone.proofs.Snoc.{take_next}
 use Rattle.batch_workers.specs.Toils.{taken_places}
 use Rattle.batch_workers.specs.Stints.{Stint}
 use Rattle.batch_workers.specs.Teams.{Draws, HasJoined, drawn_in, no_pieces}
-use Rattle.batch_workers.specs.declared.piece.Piece.{Piece}
 use Rattle.batch_workers.proofs.Ending.{weight-append}
 
 -- the place of an input behind so many others, where it was taken
@@ -78,12 +75,12 @@ pub draws-of : (old new : Drawer) (ds : List Stint) (drained : Bool) (left : ℕ
 draws-of old new ds drained left none joined both leaves dry =
     let sum : (of : ℕ → ℕ) → weight of (numbers_of old) ≡ weight of (drawn_in ds) + weight of leaves.left =
     (λ of.
-        let a = ap (weight of) joined.numbers in
-        let b = leaves.same of in
-        let c = weight-append of (drawn_by new) leaves.left in
-        let d = joined.drawn of in
-        let e = ap (λ xs. weight of (xs ++ drawn_in ds)) none in
-        omega (arith, a, b, c, d, e)) in
+    let a = ap (weight of) joined.numbers in
+    let b = leaves.same of in
+    let c = weight-append of (drawn_by new) leaves.left in
+    let d = joined.drawn of in
+    let e = ap (λ xs. weight of (xs ++ drawn_in ds)) none in
+    omega (arith, a, b, c, d, e)) in
     record {
       some = λ of. let k = sum of in omega (arith, k);
       all = λ is of.

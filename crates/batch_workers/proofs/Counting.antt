@@ -1,7 +1,7 @@
 -- Numbers that were drawn, and how often each stands among them.
-use Rattle.std.proofs.Common.{◌≡◌, ◌∙◌, ◌⊎◌, inl, inr, ◌≤◌, ◌<◌, ◌+◌, ℕ, zero, suc, Bool, true, false, cond, if◌then◌else◌, List, [], ◌∷◌, ◌++◌, length, map, ap, ap₂, sym, refl, arith}
+use Rattle.std.proofs.Common.{◌≡◌, ◌∙◌, ◌⊎◌, inl, inr, ◌≤◌, ◌+◌, ℕ, zero, suc, Bool, true, false, cond, if◌then◌else◌, List, [], ◌∷◌, length, map, ap, refl, arith}
 use Rattle.std.specs.List.{AllByRecursion, filter}
-use Rattle.job_board.specs.Numbers.{AreSame, weight}
+use Rattle.job_board.specs.Numbers.{weight}
 use Rattle.batch_runs.specs.Histories as runs
 use Rattle.batch_runs.specs.Takings.{Taking, Got, Missed}
 use Rattle.batch_workers.specs.Toils.{is_taken, places, taken_places}

@@ -1,5 +1,5 @@
 -- What workers did, from what each drew and handed back.
-use Rattle.std.proofs.Common.{◌≡◌, ◌∙◌, ◌≤◌, ◌<◌, ◌+◌, ℕ, zero, suc, Bool, true, false, ◌||◌, if◌then◌else◌, List, [], ◌∷◌, ◌++◌, length, map, Option, Some, None, ap, ap₂, sym, subst, refl, arith, true≢false}
+use Rattle.std.proofs.Common.{◌≡◌, ◌∙◌, ◌≤◌, ◌<◌, ℕ, zero, suc, Bool, true, false, ◌||◌, if◌then◌else◌, List, [], ◌∷◌, ◌++◌, length, map, Option, Some, ap, ap₂, sym, subst, refl, arith, true≢false}
 use Rattle.std.proofs.lemmas.List.{map-append}
 use Rattle.std.proofs.lemmas.List.Elements.{filter-append}
 use Rattle.std.specs.List.{AllByRecursion, filter}
@@ -9,7 +9,7 @@ use Rattle.batch_jobs.specs.Jobs.{JobLine}
 use Rattle.batch_runs.specs.Histories as runs
 use Rattle.batch_runs.specs.Takings.{Taking, Got, Missed}
 use Rattle.batch_runs.specs.Works.{Work, Skipped, Denied, Converted, Works, AreWorked}
-use Rattle.batch_runs.specs.Shares.{Share, AreOwn, AreAt, HaveAt, drawn}
+use Rattle.batch_runs.specs.Shares.{Share, AreAt, HaveAt, drawn}
 use Rattle.batch_alone.specs.Readings.{length_made, work_of}
 use Rattle.batch_workers.specs.Parts.{Part}
 use Rattle.batch_workers.specs.Toils.{AreBegunBy, AreDoneBy, AreHeld, AreNumbered, AreOfJobs, IsHeld, OwnTheirs, Toil, is_taken, job_at, most_made, places, places_of, share_of, shares_in, taken_places, taking_at, work_in, works_in}

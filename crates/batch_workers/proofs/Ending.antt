@@ -1,12 +1,11 @@
 -- Workers that are ended one after another, the last first.
-use Rattle.std.proofs.Common.{◌≡◌, ◌∙◌, ◌≤◌, ◌+◌, ◌==◌, ℕ, zero, suc, Bool, true, false, ◌||◌, if◌then◌else◌, List, [], ◌∷◌, ◌++◌, length, map, Option, ap, sym, subst, refl, arith, eq-eqb, append_assoc}
+use Rattle.std.proofs.Common.{◌≡◌, ◌∙◌, ◌+◌, ℕ, suc, Bool, true, false, ◌||◌, if◌then◌else◌, List, [], ◌∷◌, ◌++◌, length, Option, ap, sym, subst, refl, arith, eq-eqb, append_assoc}
 use Rattle.std.proofs.lemmas.List.{map-append, append-nil}
 use Rattle.history_core.specs.History.{without}
 use Rattle.job_board.specs.Numbers.{AreSame, weight}
 use Rattle.job_board.specs.Drawers.{drawn_by, is_drained}
 use Rattle.batch_workers.specs.Parts.{Part}
 use Rattle.batch_workers.specs.Toils.{AreNumbered}
-use Rattle.batch_workers.specs.Stints.{Stint, stint_of}
 use Rattle.batch_workers.specs.Teams.{countdown, drawn_in, filled, parts_of, pieces_in, some_drained, some_wanting, stints_of}
 use Rattle.batch_workers.specs.declared.piece.Piece.{Piece}
 use Rattle.batch_workers.specs.declared.worker.Worker.{Worker}

@@ -1,5 +1,5 @@
 -- Pieces in their slots.
-use Rattle.std.proofs.Common.{◌≡◌, ◌∙◌, ◌≤◌, ◌<◌, ◌+◌, ℕ, zero, suc, List, [], ◌∷◌, ◌++◌, length, Option, Some, None, slice_set, ap, sym, refl, arith}
+use Rattle.std.proofs.Common.{◌≡◌, ◌∙◌, ◌≤◌, ◌<◌, ℕ, zero, suc, List, [], ◌∷◌, ◌++◌, length, Option, Some, slice_set, ap, sym, refl, arith}
 use Rattle.batch_workers.specs.Teams.{filled, slot_set}
 use Rattle.batch_workers.specs.declared.piece.Piece.{Piece}
 

@@ -9,3 +9,6 @@ pub mod Done
 pub mod Whose
 pub mod Boards
 pub mod Together
+pub mod Puts
+pub mod Endings
+pub mod Started

@@ -1,5 +1,5 @@
 -- Workers that are made one after another.
-use Rattle.std.proofs.Common.{◌≡◌, ◌∙◌, ◌+◌, ℕ, suc, List, [], ◌∷◌, ◌++◌, length, map, ap, sym, subst, refl, arith, add-one}
+use Rattle.std.proofs.Common.{◌≡◌, ◌∙◌, ◌+◌, ℕ, List, [], ◌∷◌, ◌++◌, length, ap, sym, subst, refl, arith, add-one}
 use Rattle.std.proofs.lemmas.List.{map-append}
 use Rattle.job_board.specs.Drawers.{Splits}
 use Rattle.job_board.specs.declared.board.Board.{Board}

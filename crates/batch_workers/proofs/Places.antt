@@ -1,14 +1,10 @@
 -- Jobs, inputs and what they are at a place.
-use Rattle.std.proofs.Common.{◌≡◌, ◌∙◌, ◌≤◌, ◌<◌, ◌+◌, ℕ, zero, suc, Bool, true, false, List, [], ◌∷◌, ◌++◌, length, map, slice_index_or, ap, sym, refl, arith}
-use Rattle.std.specs.List.{filter}
+use Rattle.std.proofs.Common.{◌≡◌, ◌≤◌, ◌<◌, ℕ, zero, suc, false, List, [], ◌∷◌, length, map, slice_index_or, ap, sym, refl, arith}
 use Rattle.batch_jobs.specs.declared.jobs.Job.{Job}
-use Rattle.batch_jobs.specs.Jobs.{JobLine, line_of}
-use Rattle.batch_runs.specs.Takings.{Taking, Got, Missed}
-use Rattle.batch_runs.specs.declared.misses.Miss.{Miss}
+use Rattle.batch_jobs.specs.Jobs.{line_of}
 use Rattle.batch_alone.specs.declared.inputs.Input.{Input}
-use Rattle.batch_alone.specs.declared.inputs.Input.TheVariants as input
 use Rattle.batch_alone.specs.Readings.{taking_of}
-use Rattle.batch_workers.specs.Toils.{is_got, is_taken, job_at, taking_at}
+use Rattle.batch_workers.specs.Toils.{is_taken, job_at, taking_at}
 
 pub job_at-index : (jobs : List Job) (i : ℕ) (j : Job) → i < length jobs → j ≡ slice_index_or jobs i j → job_at (map line_of jobs) i ≡ line_of j
 job_at-index [] i j lt e = absurd (omega (arith, lt))

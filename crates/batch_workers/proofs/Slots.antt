@@ -1,5 +1,5 @@
 -- Which piece stands in a slot.
-use Rattle.std.proofs.Common.{◌≡◌, ◌∙◌, ◌⊎◌, inl, inr, ◌≤◌, ◌<◌, ◌+◌, ℕ, zero, suc, List, [], ◌∷◌, length, map, Option, Some, None, ap, sym, subst, refl, arith}
+use Rattle.std.proofs.Common.{◌≡◌, ◌∙◌, ◌⊎◌, inl, inr, ◌≤◌, ◌<◌, ℕ, zero, suc, List, [], ◌∷◌, length, map, Option, Some, None, refl, arith}
 use Rattle.std.specs.List.{AllByRecursion}
 use Rattle.job_board.specs.Numbers.{weight}
 use Rattle.batch_workers.specs.Teams.{filled, slot_set}
@@ -53,12 +53,12 @@ pieces-stand os (d ∷ ds) once low =
     let here = low.0 in (
       slot_at-set (filled os ds) d.place d (omega (arith, long, here)),
       each-both (λ (e : Piece). 1 ≤ weight (same e.place) (places_in ds)) (λ (e : Piece). slot_at (filled os ds) e.place ≡ Some e)
-      (λ (e : Piece). slot_at (filled os (d ∷ ds)) e.place ≡ Some e) ds
-      (λ e some is.
+          (λ (e : Piece). slot_at (filled os (d ∷ ds)) e.place ≡ Some e) ds
+          (λ e some is.
           let k = once e.place in
           let t = same-sym d.place e.place in
           slot_at-other (filled os ds) d.place e.place d (omega (arith, some, k, t)) ∙ is)
-      (weighs-in ds) (pieces-stand os ds (λ n. let k = once n in omega (arith, k)) low.1),
+          (weighs-in ds) (pieces-stand os ds (λ n. let k = once n in omega (arith, k)) low.1),
     )
 
 -- a place that is among the places is that of a piece

@@ -5,14 +5,13 @@ use Rattle.std.proofs.lemmas.List.Elements.{filter-append}
 use Rattle.std.specs.List.{AllByRecursion, filter}
 use Rattle.runtime_histories.specs.Settings.{Setting}
 use Rattle.batch_jobs.specs.Jobs.{JobLine, Text}
-use Rattle.batch_runs.specs.Takings.{Taking, Got, Missed}
-use Rattle.batch_runs.specs.Works.{Work, Works}
+use Rattle.batch_runs.specs.Takings.{Taking, Got}
+use Rattle.batch_runs.specs.Works.{Works}
 use Rattle.batch_runs.specs.Histories.{Placed}
 use Rattle.batch_runs.specs.Shares.{Share, AreOwn, IsOwnOf}
-use Rattle.batch_alone.specs.Readings.{length_made, work_of}
-use Rattle.batch_workers.specs.Parts.{Part, Serves, IsCutOff}
-use Rattle.batch_workers.specs.Toils.{AreOfJobs, is_got, is_taken, job_at, most_made, places_of, share_of, taking_at}
-use Rattle.batch_workers.specs.Stints.{GoesOn, Hands, IsAllowed, IsStint, Stint, shares_of, stint_with}
+use Rattle.batch_workers.specs.Parts.{Part, IsCutOff}
+use Rattle.batch_workers.specs.Toils.{is_got, is_taken, job_at, share_of, taking_at}
+use Rattle.batch_workers.specs.Stints.{GoesOn, Hands, IsAllowed, IsStint, Stint, shares_of}
 use Rattle.batch_workers.specs.declared.piece.Piece.{Piece}
 
 pub own_snoc : (s : Setting) (n : ℕ) (ds : List Share) (ps : List Placed) (d : Share) (these : List Placed)

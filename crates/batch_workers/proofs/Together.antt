@@ -1,7 +1,7 @@
 -- Workers together, before and after their work.
-use Rattle.std.proofs.Common.{◌≡◌, ◌∙◌, ◌≤◌, ◌<◌, ◌+◌, ℕ, zero, suc, Bool, true, false, ◌||◌, List, [], ◌∷◌, length, map, All, Option, Result, Ok, Err, OnOk, slice_index_or, ap, sym, subst, refl, arith}
+use Rattle.std.proofs.Common.{◌≡◌, ◌∙◌, ◌≤◌, ◌<◌, ◌+◌, ℕ, zero, suc, Bool, true, false, ◌||◌, List, [], ◌∷◌, length, All, Option, Result, Ok, Err, OnOk, slice_index_or, ap, sym, subst, refl, arith}
 use Rattle.std.specs.Result.{is_err}
-use Rattle.job_board.specs.Numbers.{AreSame, weight}
+use Rattle.job_board.specs.Numbers.{weight}
 use Rattle.job_board.specs.Drawers.{is_drained}
 use Rattle.job_board.specs.declared.board.Board.{Board}
 use Rattle.runtime_histories.specs.Settings.{Setting}
@@ -9,8 +9,8 @@ use Rattle.batch_jobs.specs.Jobs.{JobLine}
 use Rattle.batch_runs.specs.Takings.{Taking}
 use Rattle.batch_workers.specs.Parts.{Part}
 use Rattle.batch_workers.specs.Toils.{AreBegunBy, AreDoneBy, AreHeld, AreNumbered, taken_places, works_in}
-use Rattle.batch_workers.specs.Stints.{CanWork, HasWorked, IsStint, Stint, stint_of}
-use Rattle.batch_workers.specs.Teams.{Draws, IsReady, drawn_in, filled, no_pieces, parts_of, pieces_in, some_drained, some_wanting, stints_of}
+use Rattle.batch_workers.specs.Stints.{CanWork, HasWorked, stint_of}
+use Rattle.batch_workers.specs.Teams.{Draws, IsReady, filled, no_pieces, parts_of, pieces_in, some_drained, some_wanting, stints_of}
 use Rattle.batch_workers.specs.declared.piece.Piece.{Piece}
 use Rattle.batch_workers.specs.declared.worker.Worker.{Worker}
 use Rattle.batch_workers.proofs.Steps.{first_stint}

@@ -1,17 +1,16 @@
 -- The history of a runtime whose callers did jobs is that of the jobs.
 use Rattle.std.proofs.lemmas.Bool.{cases_lt}
-use Rattle.std.proofs.Common.{◌≡◌, ◌∙◌, ◌⊎◌, inl, inr, ◌+◌, ◌≤◌, ◌<◌, ◌==◌, ◌≢◌, max, ℕ, zero, suc, Bool, true, false, if◌then◌else◌, List, [], ◌∷◌, ◌++◌, length, map, None, Option, ap, ap₂, sym, subst, refl, arith, eq-eqb, eqb-true, true≢false}
-use Rattle.std.specs.List.{AllByRecursion}
+use Rattle.std.proofs.Common.{◌≡◌, ◌∙◌, ◌⊎◌, inl, inr, ◌+◌, ◌≤◌, ◌<◌, ◌==◌, ◌≢◌, ℕ, zero, suc, Bool, true, false, if◌then◌else◌, List, [], ◌∷◌, ◌++◌, length, map, None, ap, ap₂, sym, subst, refl, arith, eq-eqb, eqb-true, true≢false}
 use Rattle.runtime_histories.specs.declared.entries.Entry.{Entry}
 use Rattle.runtime_histories.specs.Settings.{Setting}
 use Rattle.runtime_histories.specs.Legal.{Legal}
 use Rattle.batch_jobs.specs.Jobs.{JobLine}
 use Rattle.batch_runs.specs.Takings.{Taking}
 use Rattle.batch_runs.specs.Works.{Work, Skipped, Denied, Converted}
-use Rattle.batch_runs.specs.Histories.{Ask, Call, Placed, weight, SomeItems, calls_of, call_of_job, ask_of, placed_from, own, ArePaired, AreCalled, IsCaller, IsHistory, IsPart}
-use Rattle.batch_runs.specs.Shares.{Share, AreOwn, all_shares, drawn, AreAt, AreOfWorkers, IsShared}
+use Rattle.batch_runs.specs.Histories.{Ask, Call, Placed, weight, calls_of, ask_of, placed_from, own, ArePaired, AreCalled, IsHistory, IsPart}
+use Rattle.batch_runs.specs.Shares.{Share, AreOwn, all_shares, AreAt, AreOfWorkers}
 use Rattle.batch_runs.proofs.Weights.{weight-append}
-use Rattle.batch_runs.proofs.Sharing.{total, total-same, total-zero, total-has, total-plus, has, has_not, calls_at, parted, call_weight, own_weight, all_weight, own_paired, own_none, shared_history}
+use Rattle.batch_runs.proofs.Sharing.{total, total-same, total-zero, total-has, total-plus, has, calls_at, parted, call_weight, own_weight, all_weight, own_paired, own_none, shared_history}
 use Rattle.batch_workers.specs.Parts.{Part, HasNumber, AreOf, HaveOwn}
 use Rattle.batch_workers.specs.Toils.{AreBegunBy, AreDoneBy, AreNumbered, AreOfJobs, OwnTheirs, Toil, job_at, places, places_of, shares_in}
 
@@ -101,7 +100,7 @@ by-all : (of : Share → ℕ) (ts : List Toil) → AreNumbered 1 (callers_of ts)
 by-all of ts a = sym (all_weight of (length (callers_of ts)) (shares_by ts)) ∙ by-total of (length (callers_of ts)) 1 ts a (omega arith) (omega arith)
 
 module _ {A : Type 0} where
-  weight-map : {B : Type 0} (of : B → ℕ) (f : A → B) (xs : List A) → weight of (map f xs) ≡ weight (λ (x : A). of (f x)) xs
+  pub weight-map : {B : Type 0} (of : B → ℕ) (f : A → B) (xs : List A) → weight of (map f xs) ≡ weight (λ (x : A). of (f x)) xs
   weight-map of f [] = refl
   weight-map of f (x ∷ xs) = ap (λ a. of (f x) + a) (weight-map of f xs)
 

@@ -6,7 +6,7 @@ use Rattle.job_board.specs.Drawers.{IsSplit, drawn_by, is_drained}
 use Rattle.job_board.specs.declared.board.Board.{Board}
 use Rattle.runtime_histories.specs.Settings.{Setting}
 use Rattle.batch_jobs.specs.Jobs.{JobLine}
-use Rattle.batch_runs.specs.Takings.{Taking, Got}
+use Rattle.batch_runs.specs.Takings.{Taking}
 use Rattle.batch_runs.specs.Works.{Works}
 use Rattle.batch_runs.specs.Shares.{Share, AreOwn}
 use Rattle.batch_alone.specs.Readings.{length_made, work_of}

@@ -1,11 +1,10 @@
 -- Workers together.
-use Rattle.std.specs.Prelude.{◌≡◌, ◌≤◌, ℕ, zero, suc, ◌+◌, Bool, true, false, ◌||◌, List, [], ◌∷◌, ◌++◌, length, map, Option, Some, None}
+use Rattle.std.specs.Prelude.{◌≡◌, ◌≤◌, ℕ, zero, suc, ◌+◌, Bool, true, false, ◌||◌, List, [], ◌∷◌, ◌++◌, map, Option, Some, None}
 use Rattle.job_board.specs.Numbers.{AreSame, weight}
-use Rattle.job_board.specs.Drawers.{IsLead, IsSplit, away_from, drawn_by, is_drained, numbers_of}
+use Rattle.job_board.specs.Drawers.{IsSplit, away_from, drawn_by, is_drained, numbers_of}
 use Rattle.job_board.specs.declared.board.Board.{Board}
 use Rattle.job_board.specs.declared.board.Drawer.{Drawer}
-use Rattle.batch_workers.specs.Parts.{Part, Roll, empty_roll}
-use Rattle.batch_workers.specs.Toils.{AreNumbered}
+use Rattle.batch_workers.specs.Parts.{Part, Roll}
 use Rattle.batch_workers.specs.Stints.{Stint, stint_of}
 use Rattle.batch_workers.specs.declared.piece.Piece.{Piece}
 use Rattle.batch_workers.specs.declared.worker.Worker.{Worker}

@@ -5,7 +5,7 @@ use Rattle.runtime_histories.specs.Settings.{Setting}
 use Rattle.batch_jobs.specs.Jobs.{JobLine}
 use Rattle.batch_runs.specs.declared.misses.Miss.TheVariants.{NoFile}
 use Rattle.batch_runs.specs.Takings.{Taking, Got, Missed}
-use Rattle.batch_runs.specs.Works.{Work, Skipped, Works, AreWorked}
+use Rattle.batch_runs.specs.Works.{Work, Skipped, AreWorked}
 use Rattle.batch_runs.specs.Histories.{SameItems, SomeItems}
 use Rattle.batch_runs.specs.Shares.{Share, AreAt, AreOwn, drawn}
 use Rattle.batch_alone.specs.Readings.{length_made, work_of}

@@ -2,8 +2,12 @@
 //! of its own, over one runtime, and the asking thread puts what they made in the order of the jobs.
 #![tactic(auto)]
 
+mod finish;
 mod gate;
 mod piece;
+mod putting;
+mod run;
+mod settling;
 mod shared;
 mod sharing;
 mod team;
@@ -12,5 +16,6 @@ mod worker;
 
 pub use gate::{Gate, OpenGate, Point};
 pub use piece::Piece;
+pub use run::{run_texts_with_workers, run_with_workers};
 pub use shared::Shared;
 pub use worker::Worker;

@@ -119,7 +119,16 @@ pub fn share_jobs<S: Shared + Sync, G: Gate + Sync, R: Threads + Wait + Sync>(
         let _ = wind_up(rt, shared, board, lead, drawer, team, slots.as_mut_slice());
         return Err(AllocError);
     }
-    work_in_threads(rt, alloc, shared, gate, &board, jobs, inputs, team.as_mut_slice());
+    work_in_threads(
+        rt,
+        alloc,
+        shared,
+        gate,
+        &board,
+        jobs,
+        inputs,
+        team.as_mut_slice(),
+    );
     if wind_up(rt, shared, board, lead, drawer, team, slots.as_mut_slice()) {
         return Err(AllocError);
     }

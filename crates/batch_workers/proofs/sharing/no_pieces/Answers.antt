@@ -1,4 +1,4 @@
-use Rattle.std.proofs.Common.{◌≡◌, ◌∙◌, ◌++◌, ◌∷◌, [], None, ap}
+use Rattle.std.proofs.Common.{◌∙◌, ◌++◌, ◌∷◌, [], None, ap}
 use Rattle.batch_workers.proofs.Boards.{none-next}
 use Rattle.batch_workers.proofs.sharing.no_pieces.Goals as goal
 

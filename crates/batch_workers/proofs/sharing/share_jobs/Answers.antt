@@ -1,4 +1,4 @@
-use Rattle.std.proofs.Common.{rules, ◌≡◌, ◌∙◌, ◌≤◌, ◌<◌, ◌+◌, ℕ, List, [], ◌∷◌, All, true, false, length, map, slice_index_or, ap, sym, subst, refl, arith}
+use Rattle.std.proofs.Common.{◌≡◌, ◌∙◌, List, true, false, length, map, ap, sym, subst, arith}
 use Rattle.std.specs.Vec.{with_items}
 use Rattle.std.proofs.lemmas.List.{with_items_is, length-map}
 use Rattle.std.proofs.lemmas.List.Elements.{All-same}
@@ -6,9 +6,8 @@ use Rattle.job_board.specs.Drawers.{numbers_of}
 use Rattle.job_board.specs.declared.hand.Hand.{Hand}
 use Rattle.batch_jobs.specs.Jobs.{line_of}
 use Rattle.batch_alone.specs.Readings.{taking_of}
-use Rattle.batch_workers.specs.Parts.{Part, Roll}
-use Rattle.batch_workers.specs.Toils.{AreNumbered, taken_places}
-use Rattle.batch_workers.specs.Stints.{CanWork, HasWorked}
+use Rattle.batch_workers.specs.Toils.{AreNumbered}
+use Rattle.batch_workers.specs.Stints.{CanWork}
 use Rattle.batch_workers.specs.Teams.{IsReady, filled, no_pieces, parts_of, pieces_in, some_drained, some_wanting, stints_of}
 use Rattle.batch_workers.proofs.Done.{AreStints}
 use Rattle.batch_workers.specs.declared.worker.Worker.{Worker}

@@ -1,4 +1,4 @@
-use Rattle.std.proofs.Common.{◌≡◌, ◌∙◌, ◌++◌, ◌||◌, All, length, ap, sym, arith}
+use Rattle.std.proofs.Common.{◌∙◌, ◌++◌, ◌||◌, ap, arith}
 use Rattle.std.proofs.lemmas.List.Elements.{All-pop}
 use Rattle.job_board.specs.Drawers.{drawn_by, is_drained}
 use Rattle.batch_workers.specs.Parts.{Roll}

@@ -1,4 +1,4 @@
-use Rattle.std.proofs.Common.{◌≡◌, ◌∙◌, ◌<◌, Some, length, slice_set, sym, refl, arith}
+use Rattle.std.proofs.Common.{◌∙◌, ◌<◌, Some, length, slice_set, sym, arith}
 use Rattle.batch_workers.proofs.Filling.{filled-last, slot_set-out, slot_set-set}
 use Rattle.batch_workers.proofs.team.fill.Goals as goal
 

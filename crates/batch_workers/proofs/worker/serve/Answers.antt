@@ -1,4 +1,4 @@
-use Rattle.std.proofs.Common.{rules, arith, refl}
+use Rattle.std.proofs.Common.{arith, refl}
 use Rattle.batch_workers.proofs.worker.serve.Goals as goal
 
 pub returns-clause-done : goal.returns-clause-done

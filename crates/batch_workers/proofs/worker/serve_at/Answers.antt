@@ -1,4 +1,4 @@
-use Rattle.std.proofs.Common.{◌≡◌, ◌∙◌, ◌<◌, ℕ, List, length, map, MatchResult, ap, subst, arith}
+use Rattle.std.proofs.Common.{◌∙◌, ◌<◌, ℕ, List, length, map, MatchResult, ap, subst, arith}
 use Rattle.batch_jobs.specs.Jobs.{line_of}
 use Rattle.batch_runs.specs.Takings.{Got}
 use Rattle.batch_alone.specs.Readings.{taking_of}

@@ -1,5 +1,5 @@
 use Rattle.std.proofs.Common.{◌≡◌, false, map}
-use Rattle.job_board.specs.Drawers.{IsSplit, drawn_by}
+use Rattle.job_board.specs.Drawers.{IsSplit}
 use Rattle.batch_jobs.specs.Jobs.{line_of}
 use Rattle.batch_alone.specs.Readings.{taking_of}
 use Rattle.batch_workers.specs.Stints.{IsStint, stint_of}
