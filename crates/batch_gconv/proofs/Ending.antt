@@ -37,10 +37,13 @@ blames_told (StoreFull n l) = refl
 blames_told (JournalFull n) = refl
 blames_told Memory = refl
 
+none_before : (a b : ℕ) → a ≡ b → 0 + a ≡ b
+none_before a b e = omega (arith, e)
+
 event_told : (caller : ℕ) (v : Event) (es : List Entry) → blame es ≡ told_faults es → blamed_in v + blame es ≡ told_faults (record { caller = caller; event = v } ∷ es)
-event_told c (Opening from to (Opened chain cost loads modules)) es e = e
+event_told c (Opening from to (Opened chain cost loads modules)) es e = λ i. 0 + e i
 event_told c (Opening from to (Refused why)) es e = λ i. blames_told why i + e i
-event_told c (Closing number) es e = e
+event_told c (Closing number) es e = none_before (blame es) (told_faults es) e
 
 blame_told : (es : List Entry) → blame es ≡ told_faults es
 blame_told [] = refl

@@ -52,7 +52,7 @@ use Rattle.batch_runs.specs.Takings.{Got}
 use Rattle.batch_runs.specs.Works.{Work, Skipped, Denied, Converted, MayRefuse}
 use Rattle.batch_workers.specs.Parts.{Part, Serves, IsCutOff}
 use Rattle.batch_book.proofs.Lasting.{lasting}
-use Rattle.batch_book.proofs.Working.{good_names, opens_deed}
+use Rattle.batch_book.proofs.Working.{IsOpenedBy, good_names, opens_deed}
 use Rattle.batch_gconv.specs.Callers.{IsIdle, part_of}
 use Rattle.batch_gconv.proofs.Own.{own_grown, own_more}
 
@@ -128,7 +128,7 @@ module _ {L : Type 0} {g : Ghosts (Room L) (Desk L) Noted Ground} (gconv : Gconv
   legal_seen : IsHistory gr seen
   legal_seen = history_front gr seen (front b) n o.adds.entry o.adds.ends k.legal_b
 
-  abbrev named : _
+  abbrev named : IsOpenedBy (ground gconv a).setting (ground gconv a).setting.first.graph (deeds_of k.opens_it.adds.seen) (asked gconv a job.from) (asked gconv a job.to) k.opens_it.answer.chain.ordinals k.opens_it.answer.chain.cost k.opens_it.answer.loads k.opens_it.answer.modules
   named = good_names s s.first.graph (deeds_of seen) from to o.answer.chain.ordinals o.answer.chain.cost o.answer.loads o.answer.modules o.legal
 
   number_is : number c ≡ n

@@ -14,6 +14,7 @@ use step_buffers::Buffers;
 
 /// The store has at most so many pages, and the journal at most so many entries.
 const MOST_PAGES: u32 = 65_536;
+
 const MOST_ENTRIES: u32 = 16_777_216;
 
 /// A runtime of many callers over a library.
@@ -100,10 +101,12 @@ impl<L: Library + Send> Shared for ManyThreads<L> {
     fn end(&self, lead: &mut Lead<L>, caller: Caller<L>) {
         match self.gconv.end(lead, caller) {
             Ok(_) => {}
-            Err(Holding {
-                count: _,
-                caller: _,
-            }) => unreachable!(),
+            Err(
+                Holding {
+                    count: _,
+                    caller: _,
+                },
+            ) => unreachable!(),
         }
     }
 
