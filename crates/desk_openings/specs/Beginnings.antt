@@ -32,9 +32,11 @@ pub record KeepsDesk {L : Type 0} (holdings : L → Holdings) (a b : Desk L) : T
   pub count : (holdings a.library).faults ≤ (holdings b.library).faults
 
 -- The refusal was entered, and this is its entry.
-pub record IsRefusal {L : Type 0} (holdings : L → Holdings) (a b : Desk L) (caller : ℕ) (from to : Asked) (why : Refusal) (e : Noted) : Type 0 where
+pub record IsRefusal {L : Type 0} (holdings : L → Holdings) (a b : Desk L) (caller : ℕ) (from to : Asked)
+    (why : Refusal) (e : Noted) : Type 0 where
   pub known : has_entry why ≡ true
-  pub leaves : Leaves (string_bytes a.directory) a.counts b.counts (holdings a.library) (holdings b.library) caller from to (replies.Refused why)
+  pub leaves : Leaves (string_bytes a.directory) a.counts b.counts (holdings a.library) (holdings b.library)
+      caller from to (replies.Refused why)
   pub blamed : IsBlamed why (holdings a.library) (holdings b.library)
   pub room : HasRoom a.counts
   pub entry : e.entry.value ≡ entry_of caller from to (replies.Refused why)
@@ -48,7 +50,8 @@ IsLost directory a old new from to why = new ≡ old
 -- How an opening by two names as asked began.
 abbrev pub HasCome : {L : Type 0} → (L → Holdings) → Desk L → Desk L → ℕ → Asked → Asked → Beginning → Type 0
 HasCome holdings a b caller from to (Begun o) =
-    HasBegun (string_bytes a.directory) a.counts b.counts (holdings a.library) (holdings b.library) from to o
+    HasBegun (string_bytes a.directory) a.counts b.counts (holdings a.library) (holdings b.library)
+    from to o
 HasCome holdings a b caller from to (Lost why) = Stays a.counts b.counts × RefusesRoom a.counts why
     × IsLost (string_bytes a.directory) a.counts (holdings a.library) (holdings b.library) from to why
 HasCome holdings a b caller from to (Refused why e) = IsRefusal holdings a b caller from to why e

@@ -1,5 +1,6 @@
 -- The pins that the modules of a chain get.
-use Rattle.std.specs.Prelude.{◌≡◌, ◌≤◌, ℕ, ◌+◌, ◌==◌, if◌then◌else◌, true, List, [], ◌∷◌, length, take, drop, Option, Some, None}
+use Rattle.std.specs.Prelude.{◌≡◌, ◌≤◌, ℕ, ◌+◌, ◌==◌, if◌then◌else◌, true, Option, Some, None}
+use Rattle.std.specs.Prelude.{List, [], ◌∷◌, length, take, drop}
 use Rattle.std.specs.List.{flat_map}
 use Rattle.std.specs.declared.vec.Vec.{Vec}
 use Rattle.std.specs.declared.alloc.Global.{Global}
@@ -50,6 +51,7 @@ abbrev pub pins_for : (ℕ → List Layout) → (ℕ → List ℕ) → List ℕ 
 pins_for images pages modules = flat_map (λ m. cut_pins (images m) (pages m)) modules
 
 -- A module of a chain is loaded or resident, and has as many pages as its images.
-pub record CanPin (layouts : List (Vec Layout Global)) (c : Booked) (loads : List Load) (ps : List (List ℕ)) (m : ℕ) : Type 0 where
+pub record CanPin (layouts : List (Vec Layout Global)) (c : Booked) (loads : List Load)
+    (ps : List (List ℕ)) (m : ℕ) : Type 0 where
   pub there : given_to m loads ps ≡ None → resident (marks (deeds c.journal)) m ≡ true
   pub enough : layout_pages (layouts_at layouts m) ≤ length (chosen_pages c loads ps m)

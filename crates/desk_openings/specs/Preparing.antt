@@ -33,14 +33,17 @@ all_places pages journal o = place_loads pages (loads_of o) (places pages (deeds
 
 -- An opening can be prepared: its chain is a least one, each module of it is resident or is loaded, none of
 -- both, each has as many pages as its tables need, and the parts of resident images are kept.
-pub record CanPrepare (graph : Shape) (pages : ℕ) (journal : List Entry) (layouts : List (Vec Layout Global)) (o : Opening) : Type 0 where
+pub record CanPrepare (graph : Shape) (pages : ℕ) (journal : List Entry)
+    (layouts : List (Vec Layout Global)) (o : Opening) : Type 0 where
   pub led : IsLed graph o.chain
   pub tables : map (λ l. l.tables) (loads_of o) ≡ o.tables.items
   pub placed : lists o.places.items ≡ places_for pages (loads_of o) (places pages (deeds journal))
   pub once : Once (loaded_modules (loads_of o))
-  pub absent : AllByRecursion (λ (x : Placed). among x.«module» (loaded_modules (loads_of o)) ≡ false) (places pages (deeds journal))
+  pub absent : AllByRecursion (λ (x : Placed). among x.«module» (loaded_modules (loads_of o)) ≡ false)
+      (places pages (deeds journal))
   pub there : AreThere (all_places pages journal o) o.modules
-  pub resident : AllByRecursion (λ m. among m (loaded_modules (loads_of o)) ≡ false → resident (marks (deeds journal)) m ≡ true) o.modules
+  pub resident : AllByRecursion (λ m. among m (loaded_modules (loads_of o)) ≡ false
+      → resident (marks (deeds journal)) m ≡ true) o.modules
   pub fits : AllByRecursion (λ (x : Placed). length x.pages ≡ pages_for x.tables) (all_places pages journal o)
   pub laid : AllByRecursion (IsLaidOut layouts) (places pages (deeds journal))
 
@@ -60,7 +63,9 @@ module _ {L : Type 0} where
     pub from : r.from ≡ begun.from
     pub to : r.to ≡ begun.to
     pub opening : r.opening ≡ begun.opening
-    pub pins : ArePinsOf (parts_for (all_places a.counts.pages a.counts.journal begun.opening) begun.opening.modules) r.pins.items
+    pub pins : ArePinsOf
+        (parts_for (all_places a.counts.pages a.counts.journal begun.opening) begun.opening.modules)
+        r.pins.items
     pub recipe : recipe_for a.graph begun.opening.chain.ordinals ≡ Some r.recipe
     pub kept : AreKept b.layouts.items (loads_of begun.opening)
     pub points : AllByRecursion (AllByRecursion HasPoints) begun.opening.tables.items

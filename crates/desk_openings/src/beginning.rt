@@ -37,7 +37,8 @@ fn leaves_entry(why: &Refusal) -> bool
 /// The last entry of the books.
 fn last_entry<L>(desk: &Desk<L>) -> Noted
     requires { 0 < length desk.now.counts.journal }
-    ensures { (es : List entry.Entry) (x : entry.Entry) → desk.now.counts.journal ≡ es ++ x ∷ [] → result.entry.value ≡ x }
+    ensures { (es : List entry.Entry) (x : entry.Entry)
+        → desk.now.counts.journal ≡ es ++ x ∷ [] → result.entry.value ≡ x }
 {
     let at = desk.counts.journal().len() - 1;
     Noted {

@@ -56,7 +56,8 @@ fn keep_parts(
     tables: &ModuleTables,
 ) -> Result<(), AllocError>
     ensures own { OnOk result (layouts_at layouts.new.items «module» ≡ map layout_of tables.now) }
-    ensures others { (m : ℕ) → «module» ≢ m → layouts_at layouts.new.items m ≡ layouts_at layouts.old.items m }
+    ensures others { (m : ℕ) → «module» ≢ m
+        → layouts_at layouts.new.items m ≡ layouts_at layouts.old.items m }
 {
     let parts = all_parts(alloc, tables.as_slice())?;
     lengthen(alloc, layouts, module as usize + 1)?;
