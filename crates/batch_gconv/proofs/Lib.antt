@@ -1,0 +1,4 @@
+pub mod Own
+pub mod Ending
+pub mod Making
+pub mod Working
