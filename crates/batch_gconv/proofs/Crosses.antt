@@ -53,8 +53,16 @@ noted_send = search (sendable, crosses) depth 20
 desk_send : (R : RattleType) → IsSend R → IsSend (desk.the_row R)
 desk_send R s = declared_send (desk.the_type R) (
   search (sendable, crosses, counts_send) depth 20,
-  (search (sendable, crosses, graph.the_send) depth 20, (search (sendable, crosses, aliases.the_send) depth 20, (search (sendable, s) depth 20,
-  (search (sendable, crosses) depth 20, (search (sendable, crosses, layout.the_send) depth 20, (search (sendable, crosses) depth 20, tt)))))),
+  (
+    search (sendable, crosses, graph.the_send) depth 20,
+    (
+      search (sendable, crosses, aliases.the_send) depth 20,
+      (
+        search (sendable, s) depth 20,
+        (search (sendable, crosses) depth 20, (search (sendable, crosses, layout.the_send) depth 20, (search (sendable, crosses) depth 20, tt))),
+      ),
+    ),
+  ),
 )
 
 -- A caller may be sent.
