@@ -138,11 +138,11 @@ abbrev is_refused : Reply → Bool
 is_refused (Opened chain cost loads modules) = false
 is_refused (Refused why) = true
 
-abbrev IsOpenedBy : Setting → Shape → Deeds → Asked → Asked → List ℕ → ℕ → List Load → List ℕ → Type 0
+abbrev pub IsOpenedBy : Setting → Shape → Deeds → Asked → Asked → List ℕ → ℕ → List Load → List ℕ → Type 0
 IsOpenedBy s graph log from to chain cost loads modules = (source target : Text) × (from ≡ Good source) × (to ≡ Good target)
     × IsOpened s graph log source target chain cost loads modules
 
-good_names : (s : Setting) (graph : Shape) (log : Deeds) (from to : Asked) (chain : List ℕ) (cost : ℕ) (loads : List Load) (modules : List ℕ)
+pub good_names : (s : Setting) (graph : Shape) (log : Deeds) (from to : Asked) (chain : List ℕ) (cost : ℕ) (loads : List Load) (modules : List ℕ)
     → IsAnswered s graph log from to (Opened chain cost loads (snapshot modules)) → IsOpenedBy s graph log from to chain cost loads modules
 good_names s graph log (Good from) (Good to) chain cost loads modules h = (from, to, refl, refl, h.2)
 good_names s graph log (Good from) (Bad f) chain cost loads modules h = absurd (true≢false (sym (ap is_refused h.2)))
@@ -169,7 +169,7 @@ held_fresh a b from to n o idle =
     subst (λ (z : Option Held). IfSome z (λ h. h.machine.states ≡ initial)) (sym (held_now h b.held (held_alone a b from to n o idle))) refl
 
 -- its deed opens a pair
-opens_deed : (from to : Text) (chain : List ℕ) (cost : ℕ) (loads : List Load) (modules : List ℕ) (f t : Asked) → f ≡ Good from → t ≡ Good to
+pub opens_deed : (from to : Text) (chain : List ℕ) (cost : ℕ) (loads : List Load) (modules : List ℕ) (f t : Asked) → f ≡ Good from → t ≡ Good to
     → deed_of (Opening f t (Opened chain cost loads (snapshot modules))) ≡ opens (record { generation = 0; from = from; to = to }) modules (map loaded_of loads)
 opens_deed from to chain cost loads modules f t is_f is_t =
     ap (λ (z : Asked). deed_of (Opening z t (Opened chain cost loads (snapshot modules)))) is_f

@@ -9,6 +9,8 @@ use batch_whole::run;
 use outside::{Files, Library, ShelfFiles, ShelfLibrary, Sink};
 use runtime_histories::Entry;
 use std::alloc::{AllocError, Global};
+use std::sync::Wait;
+use std::thread::Threads;
 
 /// A journal of more entries isn't written, nor an output of more lines.
 const MOST_ENTRIES: usize = 16;
@@ -23,7 +25,7 @@ pub struct Left {
 }
 
 /// Runs words. Nothing is said of it here: it is a run like any other.
-fn run_words<R: AllocGlobal, F: Files, L: Library, O: Sink>(
+fn run_words<R: AllocGlobal + Threads + Wait + Sync, F: Files, L: Library + Send, O: Sink>(
     rt: &R,
     words: &[String],
     files: &mut F,

@@ -5,13 +5,18 @@ ghost use Rattle.batch_runs.specs.Endings.{status_of};
 ghost use Rattle.batch_runs.specs.Runs.{Ran};
 ghost use Rattle.batch_whole.specs.Worlds.{world};
 
-use crate::words::run_words;
+use crate::with_workers::run_words_with_workers;
 use batch_alone::Ended;
 use batch_book::OneThread;
+use batch_gconv::ManyThreads;
+use batch_workers::OpenGate;
 use outside::{Files, Library, Sink, SureLibrary};
+use std::sync::Wait;
+use std::thread::Threads;
 
-/// Does what the words ask for, and tells how it ended. Every number of workers goes in one thread.
-pub fn run<R: AllocGlobal, F: Files, L: Library, O: Sink>(
+/// Does what the words ask for, with as many workers as they name, and tells how it ended. Without
+/// workers the asking thread does all jobs.
+pub fn run<R: AllocGlobal + Threads + Wait + Sync, F: Files, L: Library + Send, O: Sink>(
     rt: &R,
     words: &[String],
     files: &mut F,
@@ -24,5 +29,15 @@ pub fn run<R: AllocGlobal, F: Files, L: Library, O: Sink>(
         (world (F.outside files.new) (L.holdings result.library) (O.written out.new))
         result.cause result.journal.items }
 {
-    run_words::<OneThread<L>, OneThread<SureLibrary>, F, O>(rt.alloc(), words, files, library, out)
+    run_words_with_workers::<
+        L,
+        OneThread<L>,
+        OneThread<SureLibrary>,
+        ManyThreads<L>,
+        ManyThreads<SureLibrary>,
+        F,
+        OpenGate,
+        O,
+        R,
+    >(rt, rt.alloc(), words, files, library, &OpenGate, out)
 }

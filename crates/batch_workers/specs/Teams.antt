@@ -1,5 +1,6 @@
 -- Workers together.
-use Rattle.std.specs.Prelude.{◌≡◌, ◌≤◌, ℕ, zero, suc, ◌+◌, Bool, true, false, ◌||◌, List, [], ◌∷◌, ◌++◌, map, Option, Some, None}
+use Rattle.std.specs.Prelude.{◌≡◌, ◌≤◌, ℕ, zero, suc, ◌+◌, Bool, true, false, ◌||◌, List, [], ◌∷◌, ◌++◌}
+use Rattle.std.specs.Prelude.{map, Option, Some, None}
 use Rattle.job_board.specs.Numbers.{AreSame, weight}
 use Rattle.job_board.specs.Drawers.{IsSplit, away_from, drawn_by, is_drained, numbers_of}
 use Rattle.job_board.specs.declared.board.Board.{Board}

@@ -1,5 +1,6 @@
 -- What workers did with the jobs of a run.
-use Rattle.std.specs.Prelude.{◌≡◌, ◌≤◌, ℕ, zero, suc, ◌+◌, Bool, true, false, List, [], ◌∷◌, ◌++◌, length, map, Option, Some, None}
+use Rattle.std.specs.Prelude.{◌≡◌, ◌≤◌, ℕ, zero, suc, ◌+◌, Bool, true, false, List, [], ◌∷◌, ◌++◌, length}
+use Rattle.std.specs.Prelude.{map, Option, Some, None}
 use Rattle.std.specs.List.{AllByRecursion}
 use Rattle.runtime_histories.specs.Settings.{Setting}
 use Rattle.batch_jobs.specs.Jobs.{JobLine}

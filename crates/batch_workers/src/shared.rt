@@ -18,7 +18,8 @@ pub trait Shared {
     ghost use Rattle.batch_jobs.specs.Jobs.{HasShortNames, line_of};
     ghost use Rattle.batch_runs.specs.Takings.{Got};
     ghost use Rattle.batch_alone.specs.Readings.{length_made, work_of};
-    ghost use Rattle.batch_workers.specs.Parts.{Base, Part, Roll, Ends, IsCutOff, IsNew, Serves, empty_roll, most_callers, new_part, with_caller, with_end};
+    ghost use Rattle.batch_workers.specs.Parts.{Base, Part, Roll, Ends, IsCutOff, IsNew, Serves};
+    ghost use Rattle.batch_workers.specs.Parts.{empty_roll, most_callers, new_part, with_caller, with_end};
 
     type Library: Library + Send;
 

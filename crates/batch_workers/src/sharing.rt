@@ -9,7 +9,8 @@ ghost use Rattle.batch_runs.specs.Takings.{length_taken};
 ghost use Rattle.batch_alone.specs.Readings.{taking_of};
 ghost use Rattle.batch_workers.specs.Parts.{empty_roll, most_callers};
 ghost use Rattle.batch_workers.specs.Toils.{AreBegunBy, AreDoneBy, AreHeld, AreNumbered, taken_places, works_in};
-ghost use Rattle.batch_workers.specs.Teams.{Draws, IsReady, countdown, filled, no_pieces, parts_of, pieces_in, some_drained, some_wanting, stints_of};
+ghost use Rattle.batch_workers.specs.Teams.{Draws, IsReady, countdown, filled, no_pieces, parts_of};
+ghost use Rattle.batch_workers.specs.Teams.{pieces_in, some_drained, some_wanting, stints_of};
 
 use crate::gate::Gate;
 use crate::piece::Piece;

@@ -1,11 +1,13 @@
 //! Workers are made and ended.
 
-ghost use Rattle.std.specs.Prelude.{◌≡◌, ◌≤◌, ◌+◌, [], ◌++◌, ◌||◌, false, length, vec_len, vec_capacity, map, All, IfOk, OnErr, OnOk};
+ghost use Rattle.std.specs.Prelude.{◌≡◌, ◌≤◌, ◌+◌, [], ◌++◌, ◌||◌, false, length, vec_len, vec_capacity};
+ghost use Rattle.std.specs.Prelude.{map, All, IfOk, OnErr, OnOk};
 ghost use Rattle.job_board.specs.Drawers.{IsLead, IsSplit, Joins, Splits, away_from, is_drained};
 ghost use Rattle.batch_workers.specs.Parts.{empty_roll, most_callers, new_part, with_caller, with_end};
 ghost use Rattle.batch_workers.specs.Toils.{AreNumbered};
 ghost use Rattle.batch_workers.specs.Stints.{CanWork};
-ghost use Rattle.batch_workers.specs.Teams.{HasJoined, HasMade, IsReady, countdown, filled, parts_of, pieces_in, some_drained, some_wanting, stints_of};
+ghost use Rattle.batch_workers.specs.Teams.{HasJoined, HasMade, IsReady, countdown, filled, parts_of};
+ghost use Rattle.batch_workers.specs.Teams.{pieces_in, some_drained, some_wanting, stints_of};
 
 use crate::piece::Piece;
 use crate::shared::Shared;

@@ -25,7 +25,7 @@ use Rattle.pair_openings.specs.Entered.{HasBegun}
 use Rattle.pair_openings.specs.declared.begun.Begun.{Begun}
 use Rattle.conversion_book.proofs.Booking.{IsOpeningOf, opening_of_names, opening_led}
 use Rattle.runtime_room.specs.Apart.{IsOrdered, AreGood, all_join, good_loads}
-use Rattle.runtime_room.specs.Desks.{IsDeskOf}
+use Rattle.runtime_room.specs.Desks.{IsDeskOf, ground_of}
 use Rattle.runtime_room.specs.Grounds.{Ground}
 use Rattle.runtime_room.specs.Held.{ordered}
 use Rattle.runtime_room.specs.Rooms.{IsHistory, IsOfPoints, entries_of, deeds_of}
@@ -40,15 +40,7 @@ use Rattle.desk_openings.proofs.Residents.{opens_there, legal_places}
 
 -- What the histories of a desk stand on.
 abbrev pub ground_at : {L : Type 0} → (L → Holdings) → Desk L → Ground
-ground_at holdings desk = record {
-  setting = record {
-    first = record { graph = desk.graph; aliases = desk.aliases };
-    source = record { directory = string_bytes desk.directory; texts = (holdings desk.library).told };
-    pages = desk.counts.pages;
-  };
-  limit = desk.counts.limit;
-  faults = (holdings desk.first.value).faults;
-}
+ground_at holdings desk = ground_of holdings desk
 
 -- A desk stands for a legal history, and an opening was begun over it.
 pub record IsBegun {L : Type 0} (holdings : L → Holdings) (a b : Desk L) (log : History Noted) (from to : Asked) (o : Begun) : Type 0 where

@@ -20,6 +20,7 @@ use Rattle.runtime_histories.specs.Charmaps.{AreTablesOf}
 use Rattle.runtime_histories.specs.Deeds.{act, opens, Deeds, Desc, Pair, Loaded, marks, openings, desc_at, closed, IsIn}
 use Rattle.runtime_histories.specs.Entries.{deeds, deed_of}
 use Rattle.runtime_histories.specs.Fair.{IsBalanced}
+use Rattle.runtime_histories.specs.Fetches.{Asks}
 use Rattle.runtime_histories.specs.Legal.{Next, loaded_modules}
 use Rattle.runtime_histories.specs.Pins.{live_of}
 use Rattle.runtime_histories.specs.Places.{Placed, among, place_loads, places}
@@ -41,6 +42,7 @@ use Rattle.runtime_room.specs.Rooms.{IsHistory, LoadsPoints, entries_of, deeds_o
 use Rattle.runtime_room.specs.declared.desk.Desk.{Desk}
 use Rattle.runtime_room.specs.declared.desk.Noted.{Noted}
 use Rattle.runtime_room.proofs.Acts.{entries-snoc, deeds_of-snoc, history_next, covered_entry, blame-snoc}
+use Rattle.runtime_room.proofs.Asking.{asked_as, asked_next}
 use Rattle.runtime_room.proofs.Covering.{DeedPut, AreNew, new_fit, new_pages, tables_in}
 use Rattle.desk_openings.specs.Entering.{EntersOn}
 use Rattle.desk_openings.specs.Layouts.{KeepsLayouts, AreKept}
@@ -48,6 +50,7 @@ use Rattle.desk_openings.specs.Parts.{parts_for, tables_for, AreThere, ArePinsOf
 use Rattle.desk_openings.specs.Preparing.{loads_of, all_places, LaysOut, IsReady}
 use Rattle.desk_openings.specs.declared.preparing.Ready.{Ready}
 use Rattle.desk_openings.proofs.Answered.{ground_at, IsBegun, held, answered, by_names, in_order, some_room, are_placed, are_absent, are_there, are_of_points, are_good}
+use Rattle.desk_openings.proofs.Asked.{begun_asks}
 use Rattle.desk_openings.proofs.LiveOnes.{new_desc, new_live, new_count, new_found, closed_same, module_among, all_from, live_resident, HaveSame, places_same, parts_same, there_same}
 use Rattle.desk_openings.proofs.Texts.{legal_read, chain_read}
 
@@ -182,18 +185,6 @@ module _ {L : Type 0} (holdings : L → Holdings) (a b c d : Desk L) (log : Hist
   blame_is = ap blame (entries-snoc log n e) ∙ (blame-snoc (entries_of log) e.entry.value
       ∙ (ap (λ (v : Entry). blame (entries_of log) + blamed_in v.event) is.entry ∙ none_more (blame (entries_of log))))
 
-  -- The desk stands for the history with its entry.
-  pub opening_stands : IsDeskOf holdings d after
-  opening_stands = record {
-    journal = is.enters.journal ∙ (ap (λ (j : List Entry). j ++ e.entry.value ∷ []) (ap (λ k. k.journal) is.prepared.laid.counts ∙ (first.begun.stays.journal ∙ first.stands.journal)) ∙ sym (entries-snoc log n e));
-    graph = is.enters.books.0 ∙ (ap (λ k. k.graph) is.prepared.laid.counts ∙ (first.begun.stays.graph ∙ (first.stands.graph ∙ (sym first.keeps.graph ∙ (sym is.prepared.laid.graph ∙ sym is.enters.graph)))));
-    layouts = subst (λ (p : ℕ). AllByRecursion (IsLaidOut d.layouts.items) (places p (deeds_of after))) (sym pages_is) laid_after;
-    blamed = subst (λ (k : ℕ). RoseBy k (holdings d.first.value).faults (holdings d.library).faults) (sym blame_is)
-        (subst (λ v. RoseBy (blame (entries_of log)) (holdings v.value).faults (holdings d.library).faults) (sym (is.enters.first ∙ (is.prepared.laid.first ∙ first.keeps.first)))
-        (subst (λ l. RoseBy (blame (entries_of log)) (holdings a.first.value).faults (holdings l).faults) (sym (is.enters.library ∙ is.prepared.laid.library))
-        (rose_more (blame (entries_of log)) (holdings a.first.value).faults (holdings a.library).faults (holdings b.library).faults first.keeps.count first.stands.blamed)));
-  }
-
   -- It stands on what it stood on.
   pub opening_ground : ground_at holdings d ≡ ground_at holdings a
   opening_ground = λ i. record {
@@ -206,7 +197,27 @@ module _ {L : Type 0} (holdings : L → Holdings) (a b c d : Desk L) (log : Hist
       pages = pages_is i;
     };
     limit = (is.enters.books.2 ∙ (ap (λ k. k.limit) is.prepared.laid.counts ∙ first.begun.stays.limit)) i;
-    faults = ap (λ f. (holdings f.value).faults) (is.enters.first ∙ (is.prepared.laid.first ∙ first.keeps.first)) i;
+    handed = ap (λ f. holdings f.value) (is.enters.first ∙ (is.prepared.laid.first ∙ first.keeps.first)) i;
+  }
+
+  -- The library was asked for what the opening asks for.
+  asks_is : Asks s (entries_of log) e.entry.value.event first.begun.answers.reply.more
+  asks_is = subst (λ (v : Entry). Asks s (entries_of log) v.event first.begun.answers.reply.more) (sym is.entry) (begun_asks holdings a b log from to o first)
+
+  -- The desk stands for the history with its entry.
+  pub opening_stands : IsDeskOf holdings d after
+  opening_stands = record {
+    journal = is.enters.journal ∙ (ap (λ (j : List Entry). j ++ e.entry.value ∷ []) (ap (λ k. k.journal) is.prepared.laid.counts ∙ (first.begun.stays.journal ∙ first.stands.journal)) ∙ sym (entries-snoc log n e));
+    graph = is.enters.books.0 ∙ (ap (λ k. k.graph) is.prepared.laid.counts ∙ (first.begun.stays.graph ∙ (first.stands.graph ∙ (sym first.keeps.graph ∙ (sym is.prepared.laid.graph ∙ sym is.enters.graph)))));
+    layouts = subst (λ (p : ℕ). AllByRecursion (IsLaidOut d.layouts.items) (places p (deeds_of after))) (sym pages_is) laid_after;
+    asked = asked_as s (ground_at holdings d).setting (entries_of log ++ e.entry.value ∷ []) (entries_of after) (holdings a.first.value) (holdings b.library) (holdings d.first.value) (holdings d.library)
+        (ap (λ (g : Ground). g.setting) (sym opening_ground)) (sym (entries-snoc log n e)) (ap (λ f. holdings f.value) (sym (is.enters.first ∙ (is.prepared.laid.first ∙ first.keeps.first))))
+        (ap holdings (sym (is.enters.library ∙ is.prepared.laid.library)))
+        (asked_next s (entries_of log) e.entry.value (holdings a.first.value) (holdings a.library) (holdings b.library) first.begun.answers.reply.more first.stands.asked first.begun.answers.reply.asked asks_is);
+    blamed = subst (λ (k : ℕ). RoseBy k (holdings d.first.value).faults (holdings d.library).faults) (sym blame_is)
+        (subst (λ v. RoseBy (blame (entries_of log)) (holdings v.value).faults (holdings d.library).faults) (sym (is.enters.first ∙ (is.prepared.laid.first ∙ first.keeps.first)))
+        (subst (λ l. RoseBy (blame (entries_of log)) (holdings a.first.value).faults (holdings l).faults) (sym (is.enters.library ∙ is.prepared.laid.library))
+        (rose_more (blame (entries_of log)) (holdings a.first.value).faults (holdings a.library).faults (holdings b.library).faults first.keeps.count first.stands.blamed)));
   }
 
   -- It closes nothing.

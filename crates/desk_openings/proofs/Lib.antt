@@ -8,3 +8,4 @@ pub mod LiveOnes
 pub mod Answered
 pub mod Entered
 pub mod Lost
+pub mod Asked

@@ -16,6 +16,7 @@ use Rattle.runtime_histories.specs.declared.refusals.Refusal.{Refusal}
 use Rattle.runtime_histories.specs.declared.refusals.Refusal.TheVariants.{BadName, NoConversion, LibraryFault, NoCharmap, BadCharmap, StoreFull, JournalFull, Memory}
 use Rattle.runtime_histories.specs.Deeds.{act, rests, Deeds, closed}
 use Rattle.runtime_histories.specs.Entries.{deeds, deed_of}
+use Rattle.runtime_histories.specs.Fetches.{Asks, AsksFor}
 use Rattle.runtime_histories.specs.Legal.{IsAnswered, Next, loaded_modules}
 use Rattle.runtime_histories.specs.Pins.{live_of}
 use Rattle.runtime_histories.specs.Places.{Placed, among, places}
@@ -24,15 +25,18 @@ use Rattle.pair_openings.specs.Entered.{Stays, entry_of}
 use Rattle.pair_openings.specs.Plans.{IsBlamed}
 use Rattle.pair_openings.specs.declared.begun.Begun.{Begun}
 use Rattle.conversion_book.proofs.Booking.{deed_rests}
-use Rattle.runtime_room.specs.Desks.{IsDeskOf, IsLaidOut, blame, blames, blamed_in}
+use Rattle.runtime_room.specs.Desks.{IsDeskOf, IsLaidOut, HasAsked, blame, blames, blamed_in}
+use Rattle.runtime_room.specs.Grounds.{Ground}
 use Rattle.runtime_room.specs.Rooms.{IsHistory, LoadsPoints, entries_of, deeds_of, pinned}
 use Rattle.runtime_room.specs.declared.desk.Desk.{Desk}
 use Rattle.runtime_room.specs.declared.desk.Noted.{Noted}
 use Rattle.runtime_room.proofs.Acts.{entries-snoc, deeds_of-snoc, history_next, covered_entry, LoadsNone, laid_out_next, blame-snoc}
+use Rattle.runtime_room.proofs.Asking.{asked_as, asked_next}
 use Rattle.runtime_room.proofs.Covering.{DeedPut}
-use Rattle.desk_openings.specs.Beginnings.{KeepsDesk, IsRefusal}
+use Rattle.desk_openings.specs.Beginnings.{KeepsDesk, IsLost, IsRefusal}
 use Rattle.desk_openings.specs.Preparing.{loads_of, LaysOut}
 use Rattle.desk_openings.proofs.Answered.{ground_at, IsBegun, are_absent}
+use Rattle.desk_openings.proofs.Asked.{asked_all, asked_in_vain, begun_asks}
 use Rattle.desk_openings.proofs.Entered.{rose_more, laid_kept}
 use Rattle.desk_openings.proofs.LiveOnes.{closed_same, live_rested}
 
@@ -91,6 +95,27 @@ module _ {L : Type 0} (holdings : L → Holdings) (a b : Desk L) (log : History 
   pub refusal_covered : (fills : List (ℕ × ℕ)) → (m p w : ℕ) → pinned (ground_at holdings a) after m p ≡ Some w → ((k : ℕ) × (pinned (ground_at holdings a) log k p ≡ Some w)) ⊎ (last_fill p fills ≡ Some w)
   refusal_covered fills = covered_entry (ground_at holdings a) log n e fills is.legal next_is points_is (subst (DeedPut a.counts.pages (places a.counts.pages (deeds_of log)) fills) (sym deed) tt)
 
+  -- It stands on what it stood on.
+  pub refusal_ground : ground_at holdings b ≡ ground_at holdings a
+  refusal_ground = λ i. record {
+    setting = record {
+      first = record { graph = is.keeps.graph i; aliases = is.keeps.aliases i };
+      source = record { directory = ap string_bytes is.keeps.directory i; texts = is.keeps.told i };
+      pages = is.refusal.leaves.enters.pages i;
+    };
+    limit = is.refusal.leaves.enters.limit i;
+    handed = ap (λ f. holdings f.value) is.keeps.first i;
+  }
+
+  -- The library was asked for what the refusal asks for.
+  asks_is : Asks s (entries_of log) e.entry.value.event is.refusal.leaves.replies.more
+  asks_is =
+      let more : List (List ℕ) = is.refusal.leaves.replies.more in
+      subst (λ (v : Entry). Asks s (entries_of log) v.event more) (sym is.refusal.entry)
+      (subst (λ (z : Deeds). AsksFor s a.graph z from to (replies.Refused why) more) (ap deeds is.stands.journal)
+      (subst (λ (g : Shape). AsksFor s g (deeds a.counts.journal) from to (replies.Refused why) more) is.stands.graph
+      ((is.refusal.leaves.replies.legal s (record { pages_is = refl; source_is = refl })).1)))
+
   -- The desk stands for the history with its entry.
   pub refusal_stands : IsDeskOf holdings b after
   refusal_stands =
@@ -105,22 +130,13 @@ module _ {L : Type 0} (holdings : L → Holdings) (a b : Desk L) (log : History 
         graph = enters.graph ∙ (is.stands.graph ∙ sym is.keeps.graph);
         layouts = subst (λ (p : ℕ). AllByRecursion (IsLaidOut b.layouts.items) (places p (deeds_of after))) (sym enters.pages)
             (subst (λ (v : Vec (Vec Layout Global) Global). AllByRecursion (IsLaidOut v.items) (places a.counts.pages (deeds_of after))) (sym is.keeps.layouts) all);
+        asked = asked_as s (ground_at holdings b).setting (entries_of log ++ e.entry.value ∷ []) (entries_of after) (holdings a.first.value) (holdings b.library) (holdings b.first.value) (holdings b.library)
+            (ap (λ (g : Ground). g.setting) (sym refusal_ground)) (sym (entries-snoc log n e)) (ap (λ f. holdings f.value) (sym is.keeps.first)) refl
+            (asked_next s (entries_of log) e.entry.value (holdings a.first.value) (holdings a.library) (holdings b.library) is.refusal.leaves.replies.more is.stands.asked is.refusal.leaves.replies.asked asks_is);
         blamed = subst (λ (k : ℕ). RoseBy k (holdings b.first.value).faults (holdings b.library).faults) (sym more)
             (subst (λ v. RoseBy (blame (entries_of log) + blames why) (holdings v.value).faults (holdings b.library).faults) (sym is.keeps.first)
             (blamed_more (blame (entries_of log)) (holdings a.first.value).faults (holdings a.library) (holdings b.library) why is.keeps.count is.refusal.blamed is.stands.blamed));
       }
-
-  -- It stands on what it stood on.
-  pub refusal_ground : ground_at holdings b ≡ ground_at holdings a
-  refusal_ground = λ i. record {
-    setting = record {
-      first = record { graph = is.keeps.graph i; aliases = is.keeps.aliases i };
-      source = record { directory = ap string_bytes is.keeps.directory i; texts = is.keeps.told i };
-      pages = is.refusal.leaves.enters.pages i;
-    };
-    limit = is.refusal.leaves.enters.limit i;
-    faults = ap (λ f. (holdings f.value).faults) is.keeps.first i;
-  }
 
   -- It closes nothing.
   pub refusal_closes : (k : ℕ) → closed k (deeds_of after) ≡ closed k (deeds_of log)
@@ -131,17 +147,6 @@ module _ {L : Type 0} (holdings : L → Holdings) (a b : Desk L) (log : History 
   refusal_live = ap (live_of n) deeds_after ∙ live_rested n n (deeds_of log)
 
 module _ {L : Type 0} (holdings : L → Holdings) (a b : Desk L) (log : History Noted) (stands : IsDeskOf holdings a log) (keeps : KeepsDesk holdings a b) (stays : Stays a.counts b.counts) where
-  -- A desk whose books stay stands for its history.
-  pub lost_stands : IsDeskOf holdings b log
-  lost_stands = record {
-    journal = stays.journal ∙ stands.journal;
-    graph = stays.graph ∙ (stands.graph ∙ sym keeps.graph);
-    layouts = subst (λ (p : ℕ). AllByRecursion (IsLaidOut b.layouts.items) (places p (deeds_of log))) (sym stays.pages)
-        (subst (λ (v : Vec (Vec Layout Global) Global). AllByRecursion (IsLaidOut v.items) (places a.counts.pages (deeds_of log))) (sym keeps.layouts) stands.layouts);
-    blamed = subst (λ v. RoseBy (blame (entries_of log)) (holdings v.value).faults (holdings b.library).faults) (sym keeps.first)
-        (rose_more (blame (entries_of log)) (holdings a.first.value).faults (holdings a.library).faults (holdings b.library).faults keeps.count stands.blamed);
-  }
-
   pub lost_ground : ground_at holdings b ≡ ground_at holdings a
   lost_ground = λ i. record {
     setting = record {
@@ -150,13 +155,49 @@ module _ {L : Type 0} (holdings : L → Holdings) (a b : Desk L) (log : History 
       pages = stays.pages i;
     };
     limit = stays.limit i;
-    faults = ap (λ f. (holdings f.value).faults) keeps.first i;
+    handed = ap (λ f. holdings f.value) keeps.first i;
   }
+
+  -- A desk whose books stay stands for its history, where openings that gave up asked for the rest.
+  lost_stands : HasAsked (ground_at holdings a).setting (entries_of log) (holdings a.first.value) (holdings b.library) → IsDeskOf holdings b log
+  lost_stands asked = record {
+    journal = stays.journal ∙ stands.journal;
+    graph = stays.graph ∙ (stands.graph ∙ sym keeps.graph);
+    layouts = subst (λ (p : ℕ). AllByRecursion (IsLaidOut b.layouts.items) (places p (deeds_of log))) (sym stays.pages)
+        (subst (λ (v : Vec (Vec Layout Global) Global). AllByRecursion (IsLaidOut v.items) (places a.counts.pages (deeds_of log))) (sym keeps.layouts) stands.layouts);
+    asked = asked_as (ground_at holdings a).setting (ground_at holdings b).setting (entries_of log) (entries_of log) (holdings a.first.value) (holdings b.library) (holdings b.first.value) (holdings b.library)
+        (ap (λ (g : Ground). g.setting) (sym lost_ground)) refl (ap (λ f. holdings f.value) (sym keeps.first)) refl asked;
+    blamed = subst (λ v. RoseBy (blame (entries_of log)) (holdings v.value).faults (holdings b.library).faults) (sym keeps.first)
+        (rose_more (blame (entries_of log)) (holdings a.first.value).faults (holdings a.library).faults (holdings b.library).faults keeps.count stands.blamed);
+  }
+
+  -- So does one over which an opening was lost.
+  pub vain_stands : (from to : Asked) (why : Refusal) → IsLost (string_bytes a.directory) a.counts (holdings a.library) (holdings b.library) from to why → IsDeskOf holdings b log
+  vain_stands from to why lost = lost_stands (asked_in_vain (ground_at holdings a).setting (string_bytes a.directory) a.counts (entries_of log) (holdings a.first.value) (holdings a.library) (holdings b.library) from to why
+      stands.journal stands.graph refl refl stands.asked lost)
 
 module _ {L : Type 0} (holdings : L → Holdings) (a b c : Desk L) (log : History Noted) (from to : Asked) (o : Begun) (is : IsBegun holdings a b log from to o)
     (laid : LaysOut b c (loaded_modules (loads_of o.opening))) where
+  abbrev here : Setting
+  here = (ground_at holdings a).setting
+
+  asked_here : HasAsked here (entries_of log) (holdings a.first.value) (holdings b.library)
+  asked_here = asked_all here (entries_of log) (holdings a.first.value) (holdings a.library) (holdings b.library) from to o.opening is.begun.answers.reply.more is.stands.asked is.begun.answers.reply.asked
+      (begun_asks holdings a b log from to o is)
+
   begun_stands : IsDeskOf holdings b log
-  begun_stands = lost_stands holdings a b log is.stands is.keeps is.begun.stays
+  begun_stands = lost_stands holdings a b log is.stands is.keeps is.begun.stays asked_here
+
+  pub late_ground : ground_at holdings c ≡ ground_at holdings a
+  late_ground = (λ i. record {
+    setting = record {
+      first = record { graph = laid.graph i; aliases = laid.aliases i };
+      source = record { directory = ap string_bytes laid.directory i; texts = ap (λ l. (holdings l).told) laid.library i };
+      pages = ap (λ z. z.pages) laid.counts i;
+    };
+    limit = ap (λ z. z.limit) laid.counts i;
+    handed = ap (λ f. holdings f.value) laid.first i;
+  }) ∙ lost_ground holdings a b log is.stands is.keeps is.begun.stays
 
   -- So does one that was prepared in part.
   pub late_stands : IsDeskOf holdings c log
@@ -168,17 +209,8 @@ module _ {L : Type 0} (holdings : L → Holdings) (a b c : Desk L) (log : Histor
         layouts = subst (λ z. AllByRecursion (IsLaidOut c.layouts.items) (places z.pages (deeds_of log))) (sym laid.counts)
             (laid_kept b.layouts.items c.layouts.items (loaded_modules (loads_of o.opening)) (places b.counts.pages (deeds_of log)) laid.layouts
             (subst (λ (p : ℕ). AllByRecursion (λ (x : Placed). among x.«module» (loaded_modules (loads_of o.opening)) ≡ false) (places p (deeds_of log))) (sym is.begun.stays.pages) (are_absent holdings a b log from to o is)) k.layouts);
+        asked = asked_as here (ground_at holdings c).setting (entries_of log) (entries_of log) (holdings a.first.value) (holdings b.library) (holdings c.first.value) (holdings c.library)
+            (ap (λ (g : Ground). g.setting) (sym late_ground)) refl (ap (λ f. holdings f.value) (sym (laid.first ∙ is.keeps.first))) (ap holdings (sym laid.library)) asked_here;
         blamed = subst (λ v. RoseBy (blame (entries_of log)) (holdings v.value).faults (holdings c.library).faults) (sym laid.first)
             (subst (λ l. RoseBy (blame (entries_of log)) (holdings b.first.value).faults (holdings l).faults) (sym laid.library) k.blamed);
       }
-
-  pub late_ground : ground_at holdings c ≡ ground_at holdings a
-  late_ground = (λ i. record {
-    setting = record {
-      first = record { graph = laid.graph i; aliases = laid.aliases i };
-      source = record { directory = ap string_bytes laid.directory i; texts = ap (λ l. (holdings l).told) laid.library i };
-      pages = ap (λ z. z.pages) laid.counts i;
-    };
-    limit = ap (λ z. z.limit) laid.counts i;
-    faults = ap (λ f. (holdings f.value).faults) laid.first i;
-  }) ∙ lost_ground holdings a b log is.stands is.keeps is.begun.stays

@@ -1,8 +1,9 @@
 -- How an opening begins over a desk.
 use Rattle.std.specs.Prelude.{◌≡◌, ℕ, ◌≤◌, Bool, true, false, List, [], ◌∷◌, ◌++◌, string_bytes}
 use Rattle.outside.specs.Moments.{Holdings}
-use Rattle.module_counts.specs.Counting.{HasRoom, RefusesRoom}
-use Rattle.pair_openings.specs.Entered.{HasBegun, Leaves, Stays, entry_of}
+use Rattle.module_counts.specs.Counting.{Booked, HasRoom, RefusesRoom}
+use Rattle.pair_openings.specs.Answers.{Loses}
+use Rattle.pair_openings.specs.Entered.{HasBegun, Leaves, Stays, entry_of, ground_of}
 use Rattle.pair_openings.specs.Plans.{IsBlamed}
 use Rattle.runtime_histories.specs.declared.entries.Entry.{Entry}
 use Rattle.runtime_histories.specs.declared.entries.Reply.TheVariants as replies
@@ -40,12 +41,19 @@ pub record IsRefusal {L : Type 0} (holdings : L → Holdings) (a b : Desk L) (ca
   pub room : HasRoom a.counts
   pub entry : e.entry.value ≡ entry_of caller from to (replies.Refused why)
 
+-- What the library was asked for by an opening that left no entry: nothing where the journal is full, and where
+-- memory was wanting a front of what such an opening asks for.
+abbrev pub IsLost : List ℕ → Booked → Holdings → Holdings → Asked → Asked → Refusal → Type 0
+IsLost directory a old new from to Memory = Loses (ground_of directory a) old new from to
+IsLost directory a old new from to why = new ≡ old
+
 -- How an opening by two names as asked began.
 abbrev pub HasCome : {L : Type 0} → (L → Holdings) → Desk L → Desk L → ℕ → Asked → Asked → Beginning → Type 0
 HasCome holdings a b caller from to (Begun o) =
     HasBegun (string_bytes a.directory) a.counts b.counts (holdings a.library) (holdings b.library)
     from to o
 HasCome holdings a b caller from to (Lost why) = Stays a.counts b.counts × RefusesRoom a.counts why
+    × IsLost (string_bytes a.directory) a.counts (holdings a.library) (holdings b.library) from to why
 HasCome holdings a b caller from to (Refused why e) = IsRefusal holdings a b caller from to why e
 
 -- A refusal with the last entry, where it left one. No public clause cites it.

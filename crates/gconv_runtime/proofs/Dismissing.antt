@@ -1,5 +1,5 @@
 -- What a closing does to what its caller knows and owns.
-use Rattle.std.proofs.Common.{◌≡◌, ◌≢◌, ◌⊎◌, ℕ, ◌+◌, ◌<◌, eqb, Bool, true, false, ◌||◌, List, [], ◌∷◌, ◌++◌, length, map, Some, sym, refl, ap, ◌∙◌, subst, arith, true≢false, ne_eqb}
+use Rattle.std.proofs.Common.{◌≡◌, ◌≢◌, ◌⊎◌, ℕ, ◌+◌, ◌<◌, eqb, Bool, true, false, ◌||◌, List, [], ◌∷◌, ◌++◌, length, map, Some, sym, refl, ap, ◌∙◌, subst, arith, true≢false, ne_eqb, string_bytes}
 use mathlib.Core.Logic.{dite}
 use native.Mathlib.Decide.{ℕ_discrete}
 use Rattle.std.specs.List.{AllByRecursion}
@@ -15,6 +15,7 @@ use Rattle.outside.specs.Moments.{Holdings}
 use Rattle.runtime_histories.specs.declared.entries.Entry.{Entry}
 use Rattle.runtime_histories.specs.Deeds.{act, closes, Deeds, Desc, openings, closed, names, desc_at, IsIn, IsLive}
 use Rattle.runtime_histories.specs.Entries.{deed_of, deeds}
+use Rattle.runtime_histories.specs.Fetches.{Asks}
 use Rattle.runtime_histories.specs.Legal.{Legal, LegalFrom, Next}
 use Rattle.runtime_histories.specs.PinLaw.{NoneOf}
 use Rattle.runtime_histories.specs.Pins.{live_of}
@@ -23,7 +24,7 @@ use Rattle.runtime_histories.proofs.Basics.{closed-append}
 use Rattle.runtime_histories.proofs.Legality.{LegalFrom-append, sound_legal}
 use Rattle.page_store.specs.Holdings.{Holding}
 use Rattle.runtime_room.specs.Apart.{all_split}
-use Rattle.runtime_room.specs.Desks.{IsDeskOf, IsLaidOut, blame, blamed_in}
+use Rattle.runtime_room.specs.Desks.{IsDeskOf, IsLaidOut, ground_of, blame, blamed_in}
 use Rattle.runtime_room.specs.Grounds.{Ground}
 use Rattle.runtime_room.specs.Held.{entries-append}
 use Rattle.runtime_room.specs.Rooms.{IsHistory, IsOwn, LoadsPoints, entries_of, deeds_of, pinned}
@@ -31,6 +32,7 @@ use Rattle.runtime_room.specs.declared.desk.Desk.{Desk}
 use Rattle.runtime_room.specs.declared.desk.Noted.{Noted}
 use Rattle.runtime_room.specs.declared.story.Room.{Room}
 use Rattle.runtime_room.proofs.Acts.{entries-snoc, deeds_of-snoc, history_next, covered_entry, LoadsNone, laid_out_next, blame-snoc}
+use Rattle.runtime_room.proofs.Asking.{asked_as, asked_next, asked_nothing}
 use Rattle.runtime_room.proofs.Covering.{DeedPut}
 use Rattle.gconv_runtime.specs.Entries.{IsClosing, ClosesOn}
 use Rattle.desk_openings.specs.Parts.{ArePinsOf}
@@ -172,6 +174,17 @@ closing_stands holdings old new log n j e s k is =
       graph = k.books.0 ∙ (s.graph ∙ sym k.graph);
       layouts = subst (λ (p : ℕ). AllByRecursion (IsLaidOut new.layouts.items) (places p (deeds_of (log ++ (n, e) ∷ [])))) (sym k.books.1)
           (subst (λ v. AllByRecursion (IsLaidOut v.items) (places pages (deeds_of (log ++ (n, e) ∷ [])))) (sym k.layouts) all);
+      asked = asked_as (ground_of holdings old).setting (ground_of holdings new).setting (entries_of log ++ e.entry.value ∷ []) (entries_of (log ++ (n, e) ∷ []))
+          (holdings old.first.value) (holdings old.library) (holdings new.first.value) (holdings new.library)
+          (λ i. record {
+            first = record { graph = sym k.graph i; aliases = sym k.aliases i };
+            source = record { directory = ap string_bytes (sym k.directory) i; texts = ap (λ l. (holdings l).told) (sym k.library) i };
+            pages = sym k.books.1 i;
+          })
+          (sym (entries-snoc log n e)) (ap (λ f. holdings f.value) (sym k.first)) (ap holdings (sym k.library))
+          (asked_next (ground_of holdings old).setting (entries_of log) e.entry.value (holdings old.first.value) (holdings old.library) (holdings old.library) [] s.asked
+          (asked_nothing (holdings old.library))
+          (subst (λ (v : Entry). Asks (ground_of holdings old).setting (entries_of log) v.event []) (sym is) refl));
       blamed = subst (λ (c : ℕ). RoseBy c (holdings new.first.value).faults (holdings new.library).faults) (sym same)
           (subst (λ v. RoseBy (blame (entries_of log)) (holdings v.value).faults (holdings new.library).faults) (sym k.first)
           (subst (λ l. RoseBy (blame (entries_of log)) (holdings old.first.value).faults (holdings l).faults) (sym k.library) s.blamed));

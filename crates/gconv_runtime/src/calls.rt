@@ -1,9 +1,9 @@
 //! Callers are made and ended, and the runtime is closed.
-ghost use Rattle.std.specs.Prelude.{◌≡◌, ◌≢◌, ◌<◌, ◌+◌, ◌^◌, ◌∷◌, [], length, IfOk, IfNone, IfSome, MatchResult};
-ghost use Rattle.history_core.specs.History.{EachNumber, HasEnd, AreEnded};
+ghost use Rattle.std.specs.Prelude.{◌≡◌, ◌≢◌, ◌<◌, ◌+◌, ◌^◌, ◌∷◌, [], length, IfOk, IfNone, IfSome, IsOk, OnOk, MatchResult};
+ghost use Rattle.history_core.specs.History.{EachNumber, HasEnd, AreEnded, without};
 ghost use Rattle.outside.specs.Faults.{RoseBy};
 ghost use Rattle.runtime_histories.specs.Pins.{live_of};
-ghost use Rattle.runtime_room.specs.Desks.{blame};
+ghost use Rattle.runtime_room.specs.Desks.{HasAsked, blame};
 ghost use Rattle.runtime_room.specs.Rooms.{IsHistory, entries_of, deeds_of};
 ghost use Rattle.gconv_runtime.specs.Tokens.{Knows, Leads, number, front, lead_front, next_number};
 ghost use Rattle.gconv_runtime.specs.Tokens.{away_of, ended_of, lead_ground};
@@ -31,9 +31,12 @@ impl<L: Library> Gconv<L> {
         ensures knows { IfOk result (Knows self.now) }
         ensures number { IfOk result (λ caller. number caller ≡ next_number lead.old) }
         ensures front { IfOk result (λ caller. front caller ≡ lead_front lead.old) }
+        // The history has no entry of the number yet.
+        ensures none { IfOk result (λ caller. EachNumber (λ n. n ≢ number caller) (front caller)) }
         ensures next { next_number lead.new ≡ next_number lead.old + 1 }
         ensures away { away_of lead.new ≡ next_number lead.old ∷ away_of lead.old }
         ensures ended { ended_of lead.new ≡ ended_of lead.old }
+        ensures made { IsOk result }
     {
         let pass = self.hall.split(&mut lead.lead)?;
         let _number = pass.number();
@@ -54,6 +57,8 @@ impl<L: Library> Gconv<L> {
             (λ holding. (0 < holding.count)
             × (holding.count ≡ length (live_of (number caller) (deeds_of (front caller))))
             × (holding.caller ≡ caller) × (lead.new ≡ lead.old)) }
+        ensures next { next_number lead.new ≡ next_number lead.old }
+        ensures away { OnOk result (away_of lead.new ≡ without (number caller) (away_of lead.old)) }
     {
         if caller.live > 0 {
             return Err(Holding {
@@ -78,7 +83,11 @@ impl<L: Library> Gconv<L> {
         ensures all { EachNumber (HasEnd (ended_of lead)) (lead_front lead) }
         // The journal blames the library at most as often as it failed.
         ensures blamed { RoseBy (blame (entries_of (lead_front lead)))
-            (lead_ground self lead).faults (L.holdings result.library).faults }
+            (lead_ground self lead).handed.faults (L.holdings result.library).faults }
+        // Its texts stayed, and it was asked for what the journal asks for, and besides that for what
+        // openings asked for that gave up.
+        ensures asked { HasAsked (lead_ground self lead).setting (entries_of (lead_front lead))
+            (lead_ground self lead).handed (L.holdings result.library) }
     {
         let Gconv { hall } = self;
         let Lead { lead } = lead;

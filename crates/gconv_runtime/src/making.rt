@@ -44,7 +44,7 @@ impl<L: Library> Gconv<L> {
             pages = pages;
           };
           limit = journal_limit;
-          faults = (L.holdings library).faults;
+          handed = L.holdings library;
         }) }
         ensures err { IfErr result (λ e. e.library ≡ library) }
     {

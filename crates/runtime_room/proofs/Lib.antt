@@ -1,3 +1,4 @@
 pub mod Putting
 pub mod Covering
 pub mod Acts
+pub mod Asking

@@ -1,5 +1,5 @@
 -- What the desk of a runtime stands for.
-use Rattle.std.specs.Prelude.{◌≡◌, ℕ, zero, suc, ◌+◌, List, [], ◌∷◌, map}
+use Rattle.std.specs.Prelude.{◌≡◌, ℕ, zero, suc, ◌+◌, List, [], ◌∷◌, map, string_bytes}
 use Rattle.std.specs.List.{AllByRecursion}
 use Rattle.std.specs.declared.vec.Vec.{Vec}
 use Rattle.std.specs.declared.alloc.Global.{Global}
@@ -16,7 +16,11 @@ use Rattle.runtime_histories.specs.declared.entries.Reply.{Reply}
 use Rattle.runtime_histories.specs.declared.entries.Reply.TheVariants.{Opened, Refused}
 use Rattle.runtime_histories.specs.declared.refusals.Refusal.{Refusal}
 use Rattle.runtime_histories.specs.declared.refusals.Refusal.TheVariants.{LibraryFault}
+use Rattle.runtime_histories.specs.Fetches.{FetchesLoose}
 use Rattle.runtime_histories.specs.Places.{Placed, places}
+use Rattle.runtime_histories.specs.Settings.{Setting}
+use Rattle.pair_openings.specs.Plans.{Asked}
+use Rattle.runtime_room.specs.Grounds.{Ground}
 use Rattle.runtime_room.specs.Rooms.{entries_of, deeds_of}
 use Rattle.runtime_room.specs.declared.desk.Desk.{Desk}
 use Rattle.runtime_room.specs.declared.desk.Noted.{Noted}
@@ -53,10 +57,32 @@ layouts_at (v ∷ vs) (suc m) = layouts_at vs m
 abbrev pub IsLaidOut : List (Vec Layout Global) → Placed → Type 0
 IsLaidOut ls x = layouts_at ls x.«module» ≡ map layout_of x.tables
 
+-- What the histories of a desk stand on.
+abbrev pub ground_of : {L : Type 0} → (L → Holdings) → Desk L → Ground
+ground_of holdings desk = record {
+  setting = record {
+    first = record { graph = desk.graph; aliases = desk.aliases };
+    source = record { directory = string_bytes desk.directory; texts = (holdings desk.library).told };
+    pages = desk.counts.pages;
+  };
+  limit = desk.counts.limit;
+  handed = holdings desk.first.value;
+}
+
+-- The library was asked for what the entries ask for, and besides that for what openings asked for that
+-- gave up for want of memory.
+pub record HasAsked (s : Setting) (entries : List Entry) (old new : Holdings) : Type 0 where
+  pub more : List (List ℕ)
+  pub asked : Asked old new more
+  pub fetched : FetchesLoose s entries more
+
 -- The books are those of the entries and of the graph, the parts of the images of resident tables are
--- kept, and the library is blamed at most as often as it failed since it was handed in.
+-- kept, and since it was handed in the library was asked for what the entries ask for, and is blamed at
+-- most as often as it failed.
 pub record IsDeskOf {L : Type 0} (holdings : L → Holdings) (desk : Desk L) (log : History Noted) : Type 0 where
   pub journal : desk.counts.journal ≡ entries_of log
   pub graph : desk.counts.graph ≡ desk.graph
   pub layouts : AllByRecursion (IsLaidOut desk.layouts.items) (places desk.counts.pages (deeds_of log))
+  pub asked : HasAsked (ground_of holdings desk).setting (entries_of log) (holdings desk.first.value)
+      (holdings desk.library)
   pub blamed : RoseBy (blame (entries_of log)) (holdings desk.first.value).faults (holdings desk.library).faults

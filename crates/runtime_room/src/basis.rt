@@ -33,6 +33,6 @@ impl<L: Library> Model for Basis<L> {
         pages = b.pages;
       };
       limit = b.limit;
-      faults = (L.holdings b.library).faults;
+      handed = L.holdings b.library;
     } };
 }

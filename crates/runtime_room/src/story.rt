@@ -16,9 +16,8 @@ pub struct Room<L> {
 }
 
 impl<L: Library> Story for Room<L> {
-    ghost use Rattle.std.specs.Prelude.{string_bytes};
     ghost use Rattle.runtime_room.specs.Rooms.{IsHistory, pinned};
-    ghost use Rattle.runtime_room.specs.Desks.{IsDeskOf};
+    ghost use Rattle.runtime_room.specs.Desks.{IsDeskOf, ground_of};
     ghost use Rattle.runtime_room.specs.RoomLaws.{pinned_stays};
 
     type Value = Desk<L>;
@@ -27,18 +26,7 @@ impl<L: Library> Story for Room<L> {
 
     type Setting = Basis<L>;
 
-    ghost setting = { λ desk. record {
-      setting = record {
-        first = record { graph = desk.graph; aliases = desk.aliases };
-        source = record {
-          directory = string_bytes desk.directory;
-          texts = (L.holdings desk.library).told;
-        };
-        pages = desk.counts.pages;
-      };
-      limit = desk.counts.limit;
-      faults = (L.holdings desk.first.value).faults;
-    } };
+    ghost setting = { ground_of L.holdings };
 
     ghost legal = { IsHistory };
 

@@ -1,5 +1,9 @@
-use Rattle.std.proofs.Common.{arith}
+use Rattle.std.proofs.Common.{arith, ap, ◌∙◌}
+use Rattle.gconv_runtime.proofs.Living.{first_stands}
 use Rattle.gconv_runtime.proofs.tokens.Gconv.new.Goals as goal
 
 pub overflow_mul-pages : goal.overflow_mul-pages
 overflow_mul-pages g c = let p = c.requires.pages in omega arith
+
+pub new-requires-3-clause-stands : goal.new-requires-3-clause-stands
+new-requires-3-clause-stands g c = first_stands g.L.Library.holdings _ c.in-Ok.ensures.empty c.in-Ok.ensures.graph c.of-first.ensures

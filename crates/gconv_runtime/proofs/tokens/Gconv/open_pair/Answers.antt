@@ -1,4 +1,4 @@
-use Rattle.std.proofs.Common.{◌≡◌, ◌∙◌, ap, sym, subst, refl, ℕ, ◌+◌, ◌++◌, ◌∷◌, [], List, length, append-nil, arith}
+use Rattle.std.proofs.Common.{◌≡◌, ◌∙◌, ap, sym, subst, refl, ℕ, ◌+◌, ◌++◌, ◌∷◌, [], List, length, append-nil, arith, string_bytes}
 use Rattle.std.specs.List.{AllByRecursion}
 use Rattle.std.specs.declared.vec.Vec.{Vec}
 use Rattle.std.specs.declared.alloc.Global.{Global}
@@ -8,6 +8,7 @@ use Rattle.history_core.specs.Tokens as hall
 use Rattle.module_counts.specs.Counting.{RefusesRoom}
 use Rattle.module_counts.specs.Stocks.{lists}
 use Rattle.pair_openings.specs.Asking.{asked_of}
+use Rattle.pair_openings.specs.Entered.{Stays}
 use Rattle.runtime_histories.specs.Deeds.{closed}
 use Rattle.runtime_histories.specs.Legal.{loaded_modules}
 use Rattle.runtime_histories.specs.Pins.{live_of}
@@ -17,7 +18,8 @@ use Rattle.runtime_room.proofs.Covering.{none_pinned}
 use Rattle.runtime_room.specs.Rooms.{deeds_of}
 use Rattle.desk_openings.specs.Preparing.{LaysOut, loads_of}
 use Rattle.desk_openings.proofs.Entered.{HasOpened}
-use Rattle.desk_openings.proofs.Lost.{refusal_stands, refusal_closes, refusal_live, late_stands}
+use Rattle.desk_openings.specs.Beginnings.{IsLost, KeepsDesk}
+use Rattle.desk_openings.proofs.Lost.{refusal_stands, refusal_closes, refusal_live, late_stands, vain_stands}
 use Rattle.gconv_runtime.specs.Openings.{asked}
 use Rattle.gconv_runtime.specs.Tokens.{number, front, ground}
 use Rattle.gconv_runtime.specs.declared.tokens.Descriptor.{Descriptor}
@@ -27,6 +29,18 @@ use Rattle.gconv_runtime.proofs.tokens.Gconv.open_pair.Goals as goal
 
 same_count : (a b : ℕ) → a ≡ b → a ≡ b + 0
 same_count a b e = omega arith
+
+pub leave-requires-clause-stands : goal.leave-requires-clause-stands
+leave-requires-clause-stands g c =
+    let t = c.turn-turn.ensures.took in
+    let log = hall.front c.turn-turn.result.pass.now in
+    let a = c.turn-turn.result.value in
+    let b = c.begin_on.new.desk in
+    let now = c.value.ensures.now in
+    let why = c.in-Lost.why in
+    vain_stands g.L.Library.holdings a b log t.stands (subst (λ z. KeepsDesk g.L.Library.holdings z b) now c.in-Lost.ensures.desk)
+    (subst (λ z. Stays z.counts b.counts) now c.in-Lost.ensures.come.0) (asked_of a.aliases c.args.from.now) (asked_of a.aliases c.args.to.now) why
+    (subst (λ z. IsLost (string_bytes z.directory) z.counts (g.L.Library.holdings z.library) (g.L.Library.holdings b.library) (asked_of z.aliases c.args.from.now) (asked_of z.aliases c.args.to.now) why) now c.in-Lost.ensures.come.2)
 
 pub returns-in-Lost-clause-knows : goal.returns-in-Lost-clause-knows
 returns-in-Lost-clause-knows g c =
