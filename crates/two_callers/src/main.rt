@@ -22,7 +22,9 @@ fn main(rt: HostRuntime) -> Result<()> {
     let [_, times] = words.as_slice() else {
         bail!("usage: two_callers N");
     };
-    let times = times.parse::<u32>().context(format_args!("{times:?} is no number"))?;
+    let times = times
+        .parse::<u32>()
+        .context(format_args!("{times:?} is no number"))?;
     match counted::count(&rt, rt.alloc(), times) {
         Some(counted) => {
             println!(&rt; "{} {} {}", counted.one, counted.two, counted.entries)?;
