@@ -25,6 +25,8 @@ use outside::ShelfFiles;
 use ran::ran;
 use setup::Setup;
 use shown::shown;
+use std::sync::Wait;
+use std::thread::Threads;
 
 /// What a script has come to: what the next run is made of, and the files that the last one left.
 #[derive(Drop)]
@@ -34,7 +36,12 @@ struct State {
 }
 
 /// Does a line, and writes it with what comes of it.
-fn step(rt: &HostRuntime, state: &mut State, line: &str) -> Result<()> {
+fn step<R: AllocGlobal + Threads + Wait + Sync>(
+    rt: &HostRuntime,
+    threads: &R,
+    state: &mut State,
+    line: &str,
+) -> Result<()> {
     let alloc = rt.alloc();
     let words: Vec<&str> = line.split_whitespace().collect(alloc)?;
     if words.is_empty() || line.starts_with('#') {
@@ -49,7 +56,7 @@ fn step(rt: &HostRuntime, state: &mut State, line: &str) -> Result<()> {
         return Ok(());
     }
     if words[0] == "run" {
-        let left = ran(rt, &state.setup, &words[1..])?;
+        let left = ran(threads, &state.setup, &words[1..])?;
         state.files = Some(left.files);
         println!(rt; "{line}{}", left.text)?;
         return Ok(());
@@ -66,7 +73,7 @@ fn main(rt: HostRuntime) -> Result<()> {
         files: None,
     };
     for line in rt.lines(rt.alloc()) {
-        step(&rt, &mut state, line?.as_str())?;
+        step(&rt, &rt, &mut state, line?.as_str())?;
     }
     Ok(())
 }

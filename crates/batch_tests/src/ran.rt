@@ -81,7 +81,11 @@ fn add_journal(alloc: Global, text: &mut String, entries: &[Entry]) -> Result<()
 }
 
 /// Runs words, and tells what came of it.
-pub fn ran(rt: &HostRuntime, setup: &Setup, words: &[&str]) -> Result<Left> {
+pub fn ran<R: AllocGlobal + Threads + Wait + Sync>(
+    rt: &R,
+    setup: &Setup,
+    words: &[&str],
+) -> Result<Left> {
     let alloc = rt.alloc();
     let words = owned(alloc, words)?;
     let mut files = setup.files(alloc)?;
