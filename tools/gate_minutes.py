@@ -21,7 +21,7 @@ TICKS = os.sysconf("SC_CLK_TCK")
 
 
 def processes():
-    """The parent and the processor seconds of each process."""
+    """The parent, the start and the processor seconds of each process."""
     found = {}
     for name in os.listdir("/proc"):
         if name.isdigit():
@@ -30,7 +30,7 @@ def processes():
                     fields = file.read().rpartition(")")[2].split()
             except OSError:
                 continue
-            found[int(name)] = int(fields[1]), (int(fields[11]) + int(fields[12])) / TICKS
+            found[int(name)] = int(fields[1]), int(fields[19]), (int(fields[11]) + int(fields[12])) / TICKS
     return found
 
 
@@ -56,14 +56,16 @@ def is_below(process, above, found):
 
 def watch(child):
     """The seconds that each prover below the child was seen to take, until the child ends."""
+    # A number is given to another process once its own has ended, so a process is its number and its start.
     seen, works = {}, {}
     while True:
         found = processes()
-        for process, (_, seconds) in found.items():
-            if not works.get(process) and is_below(process, child.pid, found):
-                works[process] = work_of(process)
-            if works.get(process):
-                seen[process] = works[process], seconds
+        for process, (_, start, seconds) in found.items():
+            key = process, start
+            if not works.get(key) and is_below(process, child.pid, found):
+                works[key] = work_of(process)
+            if works.get(key):
+                seen[key] = works[key], seconds
         if child.poll() is not None:
             return seen
         time.sleep(0.5)
