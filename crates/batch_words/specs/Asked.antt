@@ -5,7 +5,7 @@ use Rattle.std.specs.Borrow.{Bor}
 use Rattle.clap.specs.Words.{Text, matches_of, Row, first_of}
 use Rattle.batch_words.specs.Command.{the_app, is_taken}
 use Rattle.batch_words.specs.Numbers.{number_in, number_or}
-use Rattle.batch_words.specs.declared.limits.TheConstants.{LONGEST_NAME, MOST_PAGES, USUAL_PAGES, MOST_WORKERS, USUAL_WORKERS, MOST_NUMBER}
+use Rattle.batch_words.specs.Limits.{longest_name, most_pages, usual_pages, most_workers, usual_workers, most_number}
 use Rattle.batch_words.specs.declared.requests.Plan.{Plan}
 use Rattle.batch_words.specs.declared.requests.PlanSource.{PlanSource}
 use Rattle.batch_words.specs.declared.requests.PlanSource.TheVariants as plan
@@ -49,8 +49,8 @@ request_of w = plan_of w.plan w.workers
 -- names are no longer than they may be, and a number for an input is one of 1 to 1,000
 abbrev pub IsWithin : Source → Type 0
 IsWithin (Texts a b c d) = Unit {0}
-IsWithin (Single from to input output) = (length from ≤ LONGEST_NAME) × (length to ≤ LONGEST_NAME)
-IsWithin (Generated n) = (1 ≤ n) × (n ≤ MOST_NUMBER)
+IsWithin (Single from to input output) = (length from ≤ longest_name) × (length to ≤ longest_name)
+IsWithin (Generated n) = (1 ≤ n) × (n ≤ most_number)
 
 -- an answer of a call that reads: what was asked, that nothing was, or want of memory
 abbrev pub Answers : {T M : Type 0} → Option M → (T → M) → Result T Refusal → Type 0
@@ -66,7 +66,7 @@ texts_asked _ _ _ _ = None
 -- a made input stands alone, without the texts and a journal's file
 abbrev pub generated_asked : Bool → Text → Option Source
 generated_asked true text = None
-generated_asked false text = option_map Generated (number_in 1 MOST_NUMBER text)
+generated_asked false text = option_map Generated (number_in 1 most_number text)
 
 -- the source, by the number to generate, the four texts and the journal's file
 abbrev pub source_asked : Option Text → Option Text → Option Text → Option Text → Option Text
@@ -91,8 +91,8 @@ with_numbers _ _ _ journal = None
 -- what the values of a long form ask for
 unfoldable pub long_asked : List Row → Option Request
 long_asked rows = with_numbers (source_given rows)
-    (number_or USUAL_PAGES MOST_PAGES (first_of (codes "pages") rows))
-    (number_or USUAL_WORKERS MOST_WORKERS (first_of (codes "workers") rows))
+    (number_or usual_pages most_pages (first_of (codes "pages") rows))
+    (number_or usual_workers most_workers (first_of (codes "workers") rows))
     (first_of (codes "journal") rows)
 
 -- what words in the long form ask for
@@ -115,7 +115,7 @@ is_short words = length words == 6
 -- what words in the short form ask for: one job, without pages and without workers
 unfoldable pub short_asked : List Text → Option Request
 short_asked words =
-    if nat_le (length (word words 1)) LONGEST_NAME && nat_le (length (word words 3)) LONGEST_NAME
+    if nat_le (length (word words 1)) longest_name && nat_le (length (word words 3)) longest_name
     then Some (record {
       source = Single (word words 1) (word words 3) (word words 4) (word words 5);
       pages = 0;

@@ -1,4 +1,4 @@
-//! The limits of what words may ask for.
+//! The numbers of `specs/Limits.antt`, for the code.
 
 /// The name of a set has at most this many bytes.
 pub const LONGEST_NAME: usize = 16_777_216;

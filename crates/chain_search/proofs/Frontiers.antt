@@ -8,7 +8,7 @@ use Rattle.std.proofs.lemmas.Bool.{cases_lt}
 use Rattle.chain_search.specs.declared.step.Step.{Step}
 use Rattle.chain_search.specs.declared.frontier.Open.{Open}
 use Rattle.chain_search.specs.Steps.{step_at}
-use Rattle.chain_search.specs.Frontier.{IsOpen, IsOpenAt, IsCheapest, NoneOpen, Covers, CoversOthers, KeepsCovered, entry}
+use Rattle.chain_search.specs.Frontier.{IsOpen, IsOpenAt, IsCheapest, NoneOpen, Covers, CoversOthers, AreQueued, entry}
 use Rattle.chain_search.proofs.Relaxing.{written}
 
 none_not : (t : Step) → None ≡ Some t → ⊥
@@ -85,13 +85,21 @@ some_same : (s t : Step) → Some s ≡ Some t → s ≡ t
 some_same s t e = cc
 
 -- no offer yet
-pub keeps_all : (table : List (Option Step)) (queue : List Open) → KeepsCovered table table queue queue
-keeps_all table queue v s e was = was e
+pub keeps_all : (table : List (Option Step)) (queue : List Open) → AreQueued table table queue queue
+keeps_all table queue = record { entered = λ v s e. inl e; kept = λ k c. c }
 
 -- an offer that was taken, with its entry
 pub keeps_more : (old mid : List (Option Step)) (before during after : List Open) (at : ℕ) (b : Step) → at < length mid
-    → KeepsCovered old mid before during → Contains after (entry at b) → ((k : Open) → Contains during k → Contains after k) → KeepsCovered old (set mid at (Some b)) before after
-keeps_more old mid before during after at b lt k here all v s e was = elim (written mid at v b lt) [
-  | inl w ↦ let is : s ≡ b = some_same s b (sym e ∙ w.1) in subst (λ y. Contains after (entry v y)) (sym is) (subst (λ u. Contains after (entry u b)) (sym w.0) here)
-  | inr w ↦ all (entry v s) (k v s (sym w.1 ∙ e) was)
-]
+    → AreQueued old mid before during → Contains after (entry at b) → ((k : Open) → Contains during k → Contains after k) → AreQueued old (set mid at (Some b)) before after
+keeps_more old mid before during after at b lt k here all = record {
+  entered = λ v s e. elim (written mid at v b lt) [
+    | inl w ↦ let is : s ≡ b = some_same s b (sym e ∙ w.1) in inr (subst (λ y. Contains after (entry v y)) (sym is) (subst (λ u. Contains after (entry u b)) (sym w.0) here))
+    | inr w ↦ elim (k.entered v s (sym w.1 ∙ e)) [ inl o ↦ inl o | inr c ↦ inr (all (entry v s) c) ]
+  ];
+  kept = λ y c. all y (k.kept y c);
+}
+
+-- a step has its entry, if it had it where it is an old one
+pub has_entry : (old new : List (Option Step)) (before after : List Open) → AreQueued old new before after → (v : ℕ) (s : Step) → step_at new v ≡ Some s
+    → (step_at old v ≡ Some s → Contains before (entry v s)) → Contains after (entry v s)
+has_entry old new before after q v s e was = elim (q.entered v s e) [ inl o ↦ q.kept (entry v s) (was o) | inr c ↦ c ]

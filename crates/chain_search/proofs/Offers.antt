@@ -5,14 +5,14 @@ use Rattle.module_graph.specs.declared.edge.Edge.{Edge}
 use Rattle.chain_search.specs.declared.step.Step.{Step}
 use Rattle.chain_search.specs.declared.frontier.Open.{Open}
 use Rattle.chain_search.specs.Steps.{step_at, step_by, NoGreater, HasAtMost, Relaxes}
-use Rattle.chain_search.specs.Frontier.{KeepsCovered, entry}
+use Rattle.chain_search.specs.Frontier.{AreQueued, entry}
 use Rattle.chain_search.proofs.Relaxing.{relax_more, kept_more}
 use Rattle.chain_search.proofs.Frontiers.{keeps_more}
 
 -- what holds after so many edges of a row
 pub record Offering (old mid : List (Option Step)) (before during : List Open) (row : List Edge) (cost len i start steps : ℕ) : Type 0 where
   pub relaxed : Relaxes old mid (take i row) cost len
-  pub queued : KeepsCovered old mid before during
+  pub queued : AreQueued old mid before during
   pub counted : steps ≡ start + i
 
 -- an edge whose offer was no better

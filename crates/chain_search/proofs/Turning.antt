@@ -12,10 +12,11 @@ use Rattle.module_graph.proofs.GraphLemmas.{is_edge}
 use Rattle.chain_search.specs.Chains.{IsLeastChain, NoChain, cost_of, ordinals_of}
 use Rattle.chain_search.specs.Answer.{TellsLeast}
 use Rattle.chain_search.specs.Steps.{step_at, step_by, Relaxes, HasAtMost}
-use Rattle.chain_search.specs.Frontier.{IsOpen, IsCheapest, NoneOpen, CoversOthers, KeepsCovered}
+use Rattle.chain_search.specs.Frontier.{IsOpen, IsCheapest, NoneOpen, CoversOthers, AreQueued}
 use Rattle.chain_search.specs.Search.{is_closed, IsBounded, settled_count, closed_edges, Running, AreTold, IsTold}
 use Rattle.chain_search.proofs.Searching.{no_chain, settled_target, settled_other, closed_target, closed_known, rest_target, found}
 use Rattle.chain_search.proofs.Tracing.{told_cost}
+use Rattle.chain_search.proofs.Frontiers.{has_entry}
 
 none_some : {s : Step} → None ≡ Some s → ⊥
 none_some e = cc
@@ -136,7 +137,7 @@ closed_none target n v = rw (none_at n v) (or_false (eqb v target))
 -- the search begins
 pub starts : (g : Shape) → IsGraph g → (source target start : ℕ) (later : List (Option Step)) (queue : List Open) (steps : ℕ)
     → Relaxes (replicate (length g.nodes) None) later (edges_into g.edges target) 0 0
-    → KeepsCovered (replicate (length g.nodes) None) later [] queue
+    → AreQueued (replicate (length g.nodes) None) later [] queue
     → steps ≤ start + length (edges_into g.edges target)
     → Running g source target start (replicate (length g.nodes) None) later queue steps
 starts g ok source target start later queue steps r q n =
@@ -170,7 +171,7 @@ starts g ok source target start later queue steps r q n =
       opened_length = r.same ∙ length-replicate count None;
       fresh = none_at count source;
       bounded = bounded_more (replicate count None) later (edges_into g.edges target) 0 0 0 (settled_count (replicate count None) + 1) r (λ v s e. absurd (none_in count v s e)) (λ e h. (row_edge g ok target e h).low_cost) (omega arith) (omega arith) (omega arith);
-      covered = λ v s o. q v s o.offer (λ e. absurd (none_in count v s e));
+      covered = λ v s o. has_entry (replicate count None) later [] queue q v s o.offer (λ e. absurd (none_in count v s e));
       counted = omega (arith, n, same_count (λ e. eqb e.target target) (λ e. is_closed target (replicate count None) e.target) (λ e. closed_none target count e.target) g.edges);
     }
 
@@ -254,14 +255,14 @@ module _ (g : Shape) (ok : IsGraph g) (source target start : ℕ) (known opened 
     pub total_after : (counted : ℕ) → u ≢ target → counted ≤ steps + length (edges_into g.edges u) → counted ≤ start + length g.edges
     total_after counted t c = omega (arith, r.counted, c, closed_after t, closed_count_le g target after)
 
-    pub turn_other : (later : List (Option Step)) (queued : List Open) (counted : ℕ) → u ≢ target → u ≢ source → Relaxes opened later (edges_into g.edges u) s.cost s.length → KeepsCovered opened later left queued → counted ≤ steps + length (edges_into g.edges u) → Running g source target start after later queued counted
+    pub turn_other : (later : List (Option Step)) (queued : List Open) (counted : ℕ) → u ≢ target → u ≢ source → Relaxes opened later (edges_into g.edges u) s.cost s.length → AreQueued opened later left queued → counted ≤ steps + length (edges_into g.edges u) → Running g source target start after later queued counted
     turn_other later queued counted t n x q c = record {
       searched = settled_other g ok target known opened r.searched u s b.within b.here.fresh b.here.offer low (edges_into g.edges u) later t (row_sound g u) (row_complete g u) (λ e h. subst (λ n. e.source < n) (sym r.opened_length) (is_edge g ok e h).source) x;
       known_length = length-set known u (Some s) ∙ r.known_length;
       opened_length = x.same ∙ r.opened_length;
       fresh = fresh_after n;
       bounded = bounded_more opened later (edges_into g.edges u) s.cost s.length (settled_count known + 1) (settled_count after + 1) x r.bounded (λ e h. (row_edge g ok u e h).low_cost) (omega (arith, more_settled)) (omega (arith, more_settled, step_bounds.0)) step_bounds.1;
-      covered = λ v y o. q v y o.offer (λ e. let w = open_before v y (record { fresh = o.fresh; offer = e }) in others v y w.0 w.1);
+      covered = λ v y o. has_entry opened later left queued q v y o.offer (λ e. let w = open_before v y (record { fresh = o.fresh; offer = e }) in others v y w.0 w.1);
       counted = omega (arith, r.counted, c, closed_after t);
     }
 

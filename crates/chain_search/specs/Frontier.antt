@@ -1,5 +1,5 @@
 -- Open nodes and the queue of them. No public clause cites it.
-use Rattle.std.specs.Prelude.{◌≡◌, ◌≢◌, ℕ, ◌<◌, ◌≤◌, List, length, Option, Some, None, Contains}
+use Rattle.std.specs.Prelude.{◌≡◌, ◌≢◌, ◌⊎◌, ℕ, ◌<◌, ◌≤◌, List, length, Option, Some, None, Contains}
 use Rattle.chain_search.specs.declared.step.Step.{Step}
 use Rattle.chain_search.specs.declared.frontier.Open.{Open}
 use Rattle.chain_search.specs.Steps.{step_at}
@@ -37,9 +37,9 @@ abbrev pub CoversOthers : List (Option Step) → List (Option Step) → List Ope
 CoversOthers known opened queue u =
     (v : ℕ) (s : Step) → v ≢ u → IsOpen known opened v s → Contains queue (entry v s)
 
--- Each step of the new table has its entry in the new queue, unless it is an old step that had none
--- in the old queue.
-abbrev pub KeepsCovered : List (Option Step) → List (Option Step) → List Open → List Open → Type 0
-KeepsCovered old new before after =
-    (v : ℕ) (s : Step) → step_at new v ≡ Some s
-    → (step_at old v ≡ Some s → Contains before (entry v s)) → Contains after (entry v s)
+-- What offers do to a table and the queue: each step of the new table is an old one or has its entry in the
+-- queue, and what stood in the queue stays there.
+pub record AreQueued (old new : List (Option Step)) (before after : List Open) : Type 0 where
+  pub entered : (v : ℕ) (s : Step) → step_at new v ≡ Some s
+      → (step_at old v ≡ Some s) ⊎ Contains after (entry v s)
+  pub kept : (k : Open) → Contains before k → Contains after k

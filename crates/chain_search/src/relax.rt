@@ -2,7 +2,7 @@
 ghost use Rattle.std.specs.Prelude.{◌≡◌, ◌+◌, ◌-◌, ◌^◌, ◌<◌, ◌≤◌, length, IsTrue, Some, false, OnOk};
 ghost use Rattle.std.specs.List.{All};
 ghost use Rattle.chain_search.specs.Steps.{NoGreater, HasAtMost, Relaxes};
-ghost use Rattle.chain_search.specs.Frontier.{KeepsCovered};
+ghost use Rattle.chain_search.specs.Frontier.{AreQueued};
 
 use crate::frontier::Open;
 use crate::step::Step;
@@ -38,7 +38,7 @@ pub fn relax<L: Ledger>(
     requires len { len < 2 ^ 32 - 1 }
     ensures relaxed { OnOk result (Relaxes opened.old opened.new row.now cost len) }
     ensures queued { OnOk result
-        (KeepsCovered opened.old opened.new queue.old.keys queue.new.keys) }
+        (AreQueued opened.old opened.new queue.old.keys queue.new.keys) }
     ensures steps { steps.new ≤ steps.old + length row.now }
 {
     for edge in row {

@@ -2,7 +2,7 @@
 ghost use Rattle.std.specs.Prelude.{◌≡◌, ℕ, List, Ok, IfOk, IfErr};
 ghost use Rattle.code_pairs.specs.Tables.{Table, IsWellFormed};
 ghost use Rattle.code_table.specs.Faults.{IsTableFault};
-ghost use Rattle.charmap_reader.specs.Scan.{Fails};
+ghost use Rattle.charmap_reader.specs.Faults.{Fails};
 ghost use Rattle.charmap_reader.specs.Charmap.{charmap_of};
 ghost use Rattle.charmap_library.specs.Builds.{IsBuildFault};
 

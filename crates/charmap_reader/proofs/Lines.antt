@@ -15,6 +15,7 @@ use Rattle.charmap_reader.specs.declared.fault.MapKind.{MapKind}
 use Rattle.charmap_reader.specs.declared.fault.MapKind.TheVariants.{BadLine, BadRange, Symbol, TooManyPairs}
 use Rattle.charmap_reader.specs.Mapping.{is_marked, mapped, ranged, members, is_range, size_of, row_pairs, ok_pairs, fault_behind}
 use Rattle.charmap_reader.specs.Header.{Signs}
+use Rattle.charmap_reader.specs.Limits.{most_pairs}
 use Rattle.charmap_reader.specs.Rows.{Row, row, row_of, is_skipped}
 
 -- A line without a symbol.
@@ -81,12 +82,12 @@ length-members point code n = length-map-range_with_len (λ k. (the_pair point c
 
 -- Few pairs are no fault, and many are one.
 pub fault_few : (n : ℕ) (o : Result (List Pair) MapKind) (ps : List Pair) → o ≡ Ok ps →
-    n + length ps ≤ 2097152 → fault_behind n o ≡ None
-fault_few n o ps e le = ap (fault_behind n) e ∙ rw (le-ltb 2097152 (n + length ps) le) refl
+    n + length ps ≤ most_pairs → fault_behind n o ≡ None
+fault_few n o ps e le = ap (fault_behind n) e ∙ rw (le-ltb most_pairs (n + length ps) le) refl
 
 pub fault_many : (n : ℕ) (o : Result (List Pair) MapKind) (ps : List Pair) → o ≡ Ok ps →
-    2097152 < n + length ps → fault_behind n o ≡ Some TooManyPairs
-fault_many n o ps e lt = ap (fault_behind n) e ∙ rw (lt-ltb 2097152 (n + length ps) lt) refl
+    most_pairs < n + length ps → fault_behind n o ≡ Some TooManyPairs
+fault_many n o ps e lt = ap (fault_behind n) e ∙ rw (lt-ltb most_pairs (n + length ps) lt) refl
 
 HasPoints-from : (point : ℕ) (code : List ℕ) (a n : ℕ) →
     list_all is_point (range_with_len (point + a) n) ≡ true →
@@ -146,13 +147,13 @@ HasPoints-append (x ∷ xs) ys a b = (a.0, HasPoints-append xs ys a.1 b)
 
 -- The pairs of a line that is no fault are few with those before it.
 pub few_behind : (n : ℕ) (o : Result (List Pair) MapKind) → fault_behind n o ≡ None →
-    n + length (ok_pairs o) ≤ 2097152
+    n + length (ok_pairs o) ≤ most_pairs
 few_behind n (Err kind) e = absurd (none e)
   where
     none : {k : MapKind} → Some k ≡ None → ⊥
     none h = cc
-few_behind n (Ok ps) e = elim (cases_Bool (ltb 2097152 (n + length ps))) [
-  | inr f ↦ ltb-false 2097152 (n + length ps) f
+few_behind n (Ok ps) e = elim (cases_Bool (ltb most_pairs (n + length ps))) [
+  | inr f ↦ ltb-false most_pairs (n + length ps) f
   | inl t ↦ absurd (none (ap (λ b. cond b (Some TooManyPairs) None) (sym t) ∙ e))
 ]
   where

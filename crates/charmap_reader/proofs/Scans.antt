@@ -18,16 +18,16 @@ use Rattle.charmap_reader.specs.Rows.{Row, row_of, rows_of}
 use Rattle.charmap_reader.specs.Header.{Signs, usual_signs, signs_after, signs_behind, header_fault, is_start}
 use Rattle.charmap_reader.specs.Mapping.{row_pairs, ok_pairs, pairs_of, fault_behind, mapping_fault, is_end}
 use Rattle.charmap_reader.specs.Charmap.{fault_at, first_fault, until, behind, or_else, when_there, ends_mapping, ends_header, mapping_of, charmap_of_rows, charmap_of}
-use Rattle.charmap_reader.specs.Scan.{onto, unless_fault, scan, scan_header, scan_text}
+use Rattle.charmap_reader.specs.Scan.{pairs_then, fault_or, scan, scan_header, scan_text}
 
-pub onto_nil : (r : Result (List Pair) MapFault) → onto [] r ≡ r
-onto_nil (Ok ps) = refl
-onto_nil (Err f) = refl
+pub pairs_then_nil : (r : Result (List Pair) MapFault) → pairs_then [] r ≡ r
+pairs_then_nil (Ok ps) = refl
+pairs_then_nil (Err f) = refl
 
-pub onto_onto : (ps qs : List Pair) (r : Result (List Pair) MapFault) →
-    onto (ps ++ qs) r ≡ onto ps (onto qs r)
-onto_onto ps qs (Ok rs) = ap Ok (append_assoc ps qs rs)
-onto_onto ps qs (Err f) = refl
+pub pairs_then_twice : (ps qs : List Pair) (r : Result (List Pair) MapFault) →
+    pairs_then (ps ++ qs) r ≡ pairs_then ps (pairs_then qs r)
+pairs_then_twice ps qs (Ok rs) = ap Ok (append_assoc ps qs rs)
+pairs_then_twice ps qs (Err f) = refl
 
 -- The mapping lines behind others, by the lines up to the end.
 abbrev mapping_behind : Signs → ℕ → ℕ → List Row → List Row → Result (List Pair) MapFault
@@ -44,14 +44,14 @@ pairs_of-push s before r =
 
 mapping_step : (o : Option MapKind) (m : ℕ) (ps : List Pair)
     (rest all : Result (List Pair) MapFault) (later : Option MapFault) →
-    or_else later all ≡ onto ps rest →
-    or_else (option_or (fault_at m o) later) all ≡ onto ps (unless_fault m o rest)
+    or_else later all ≡ pairs_then ps rest →
+    or_else (option_or (fault_at m o) later) all ≡ pairs_then ps (fault_or m o rest)
 mapping_step None m ps rest all later e = e
 mapping_step (Some k) m ps rest all later e = refl
 
 mapping_scanned_behind : (s : Signs) (count n : ℕ) (before rows : List Row) →
     mapping_behind s count n before rows
-    ≡ onto (pairs_of s before)
+    ≡ pairs_then (pairs_of s before)
     (scan s count (n + length before) (length (pairs_of s before)) rows)
 mapping_scanned_behind s count n before [] = refl
 mapping_scanned_behind s count n before (r ∷ rs) = elim (cases_Bool (is_end s r)) [
@@ -65,21 +65,21 @@ mapping_scanned_behind s count n before (r ∷ rs) = elim (cases_Bool (is_end s 
       let total : length (pairs_of s next) ≡ length (pairs_of s before) + length qs =
       ap length more ∙ length-append (pairs_of s before) qs in
       let later : mapping_behind s count n next rs
-      ≡ onto (pairs_of s before)
-      (onto qs (scan s count (n + length before + 1) (length (pairs_of s before) + length qs)
+      ≡ pairs_then (pairs_of s before)
+      (pairs_then qs (scan s count (n + length before + 1) (length (pairs_of s before) + length qs)
       rs)) =
       mapping_scanned_behind s count n next rs
-      ∙ ap (λ m. onto (pairs_of s next) (scan s count m (length (pairs_of s next)) rs)) line
-      ∙ ap (λ m. onto (pairs_of s next) (scan s count (n + length before + 1) m rs)) total
-      ∙ ap (λ ps. onto ps (scan s count (n + length before + 1)
+      ∙ ap (λ m. pairs_then (pairs_of s next) (scan s count m (length (pairs_of s next)) rs)) line
+      ∙ ap (λ m. pairs_then (pairs_of s next) (scan s count (n + length before + 1) m rs)) total
+      ∙ ap (λ ps. pairs_then ps (scan s count (n + length before + 1)
       (length (pairs_of s before) + length qs) rs)) more
-      ∙ onto_onto (pairs_of s before) qs
+      ∙ pairs_then_twice (pairs_of s before) qs
       (scan s count (n + length before + 1) (length (pairs_of s before) + length qs) rs) in
       let lines = until (ends_mapping s) next rs in
       let joined : next ++ lines ≡ before ++ r ∷ lines = append_assoc before (r ∷ []) lines in
       rw f (mapping_step (fault_behind (length (pairs_of s before)) (row_pairs s r))
       (n + length before) (pairs_of s before)
-      (onto qs (scan s count (n + length before + 1) (length (pairs_of s before) + length qs) rs))
+      (pairs_then qs (scan s count (n + length before + 1) (length (pairs_of s before) + length qs) rs))
       (when_there NoEnd count (behind (ends_mapping s) next rs)
       (λ _. Ok (pairs_of s (before ++ r ∷ lines)))) (first_fault n (mapping_fault s) next lines)
       (ap (λ b. or_else (first_fault n (mapping_fault s) next lines)
@@ -91,7 +91,7 @@ mapping_scanned_behind s count n before (r ∷ rs) = elim (cases_Bool (is_end s 
 pub mapping_scanned : (s : Signs) (count n : ℕ) (rows : List Row) →
     mapping_of s count n rows ≡ scan s count n 0 rows
 mapping_scanned s count n rows =
-    mapping_scanned_behind s count n [] rows ∙ onto_nil (scan s count (n + 0) 0 rows)
+    mapping_scanned_behind s count n [] rows ∙ pairs_then_nil (scan s count (n + 0) 0 rows)
     ∙ ap (λ m. scan s count m 0 rows) (add-zero n)
 
 -- All lines behind some of the header, by the lines up to the one that ends it.
@@ -109,7 +109,7 @@ signs_behind-push before r = fold-append signs_after usual_signs before (r ∷ [
 
 header_step : (o : Option MapKind) (m : ℕ) (rest all : Result (List Pair) MapFault)
     (later : Option MapFault) →
-    or_else later all ≡ rest → or_else (option_or (fault_at m o) later) all ≡ unless_fault m o rest
+    or_else later all ≡ rest → or_else (option_or (fault_at m o) later) all ≡ fault_or m o rest
 header_step None m rest all later e = e
 header_step (Some k) m rest all later e = refl
 
@@ -150,15 +150,15 @@ charmap_scanned rows = header_scanned_behind (length rows) [] rows
 -- One mapping line more.
 pub scan_step : (s : Signs) (count n : ℕ) (ps : List Pair) (row : Row) (rows : List Row) →
     is_end s row ≡ false → fault_behind (length ps) (row_pairs s row) ≡ None →
-    onto (ps ++ ok_pairs (row_pairs s row))
+    pairs_then (ps ++ ok_pairs (row_pairs s row))
     (scan s count (n + 1) (length (ps ++ ok_pairs (row_pairs s row))) rows)
-    ≡ onto ps (scan s count n (length ps) (row ∷ rows))
+    ≡ pairs_then ps (scan s count n (length ps) (row ∷ rows))
 scan_step s count n ps row rows f e =
     let qs = ok_pairs (row_pairs s row) in
-    ap (λ m. onto (ps ++ qs) (scan s count (n + 1) m rows)) (length-append ps qs)
-    ∙ onto_onto ps qs (scan s count (n + 1) (length ps + length qs) rows)
-    ∙ ap (onto ps) (rw f (ap
-    (λ o. unless_fault n o (onto qs (scan s count (n + 1) (length ps + length qs) rows)))
+    ap (λ m. pairs_then (ps ++ qs) (scan s count (n + 1) m rows)) (length-append ps qs)
+    ∙ pairs_then_twice ps qs (scan s count (n + 1) (length ps + length qs) rows)
+    ∙ ap (pairs_then ps) (rw f (ap
+    (λ o. fault_or n o (pairs_then qs (scan s count (n + 1) (length ps + length qs) rows)))
     (sym e)))
 
 abbrev faulty : MapKind → ℕ → Result (List Pair) MapFault
@@ -168,17 +168,17 @@ faulty kind n = Err (record { kind = kind; line = n })
 pub scan_fault : (s : Signs) (count n : ℕ) (ps : List Pair) (row : Row) (rows : List Row)
     (kind : MapKind) → is_end s row ≡ false →
     fault_behind (length ps) (row_pairs s row) ≡ Some kind →
-    onto ps (scan s count n (length ps) (row ∷ rows)) ≡ Err (record { kind = kind; line = n })
+    pairs_then ps (scan s count n (length ps) (row ∷ rows)) ≡ Err (record { kind = kind; line = n })
 scan_fault s count n ps row rows kind f e =
-    let rest = onto (ok_pairs (row_pairs s row))
+    let rest = pairs_then (ok_pairs (row_pairs s row))
     (scan s count (n + 1) (length ps + length (ok_pairs (row_pairs s row))) rows) in
-    let told : unless_fault n (fault_behind (length ps) (row_pairs s row)) rest ≡ faulty kind n =
-    ap (λ o. unless_fault n o rest) e in
-    rw f (ap (onto ps) told)
+    let told : fault_or n (fault_behind (length ps) (row_pairs s row)) rest ≡ faulty kind n =
+    ap (λ o. fault_or n o rest) e in
+    rw f (ap (pairs_then ps) told)
 
 -- The line that ends the mapping lines.
 pub scan_end : (s : Signs) (count n : ℕ) (ps : List Pair) (row : Row) (rows : List Row) →
-    is_end s row ≡ true → onto ps (scan s count n (length ps) (row ∷ rows)) ≡ Ok ps
+    is_end s row ≡ true → pairs_then ps (scan s count n (length ps) (row ∷ rows)) ≡ Ok ps
 scan_end s count n ps row rows t = rw t (ap Ok (append-nil ps))
 
 without_empty_end-length : (parts : List (List ℕ)) → length (without_empty_end parts) ≤ length parts

@@ -10,6 +10,7 @@ use Rattle.charmap_words.specs.Symbols.{span_of}
 use Rattle.charmap_words.specs.Spelling.{code_spelled}
 use Rattle.charmap_words.specs.declared.codes.CodeFault.{CodeFault}
 use Rattle.charmap_words.specs.declared.codes.CodeFault.TheVariants as word_faults
+use Rattle.charmap_reader.specs.Limits.{most_pairs}
 use Rattle.charmap_reader.specs.Rows.{Row, is_skipped}
 use Rattle.charmap_reader.specs.Header.{Signs}
 use Rattle.charmap_reader.specs.declared.fault.MapKind.{MapKind}
@@ -73,7 +74,7 @@ pairs_of signs rows = flat_map (λ row. ok_pairs (row_pairs signs row)) rows
 abbrev pub fault_behind : ℕ → Result (List Pair) MapKind → Option MapKind
 fault_behind count (Err kind) = Some kind
 fault_behind count (Ok pairs) =
-    if nat_lt 2097152 (count + length pairs) then Some TooManyPairs else None
+    if nat_lt most_pairs (count + length pairs) then Some TooManyPairs else None
 
 -- The fault of a mapping line behind other mapping lines.
 abbrev pub mapping_fault : Signs → List Row → Row → Option MapKind

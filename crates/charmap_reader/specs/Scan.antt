@@ -1,4 +1,4 @@
--- A text as it is read, line by line.
+-- A text as it is read, line by line. No public clause cites it.
 use Rattle.std.specs.Prelude.{◌≡◌, ℕ, ◌+◌, ◌-◌, true, false, if◌then◌else◌, List, [], ◌∷◌, ◌++◌, length, Option, Some, None, Result, Ok, Err}
 use Rattle.text_lines.specs.Lines.{lines}
 use Rattle.code_pairs.specs.declared.Pair.{Pair}
@@ -8,8 +8,6 @@ use Rattle.charmap_reader.specs.Mapping.{row_pairs, ok_pairs, fault_behind, is_e
 use Rattle.charmap_reader.specs.declared.fault.MapKind.{MapKind}
 use Rattle.charmap_reader.specs.declared.fault.MapKind.TheVariants.{NoStart, NoEnd, BadLine}
 use Rattle.charmap_reader.specs.declared.fault.MapFault.{MapFault}
-use Rattle.charmap_reader.specs.declared.fault.ReadFault.{ReadFault}
-use Rattle.charmap_reader.specs.declared.fault.ReadFault.TheVariants.{Text, Memory}
 use Rattle.charmap_reader.specs.declared.header.HeaderLine.{HeaderLine}
 use Rattle.charmap_reader.specs.declared.header.HeaderLine.TheVariants.{Start}
 use Rattle.charmap_reader.specs.declared.header.HeaderLine.TheVariants as header_lines
@@ -17,23 +15,23 @@ use Rattle.charmap_reader.specs.declared.mapping.MappingLine.{MappingLine}
 use Rattle.charmap_reader.specs.declared.mapping.MappingLine.TheVariants.{End, More, Bad}
 
 -- These pairs, and then those of a result.
-abbrev pub onto : List Pair → Result (List Pair) MapFault → Result (List Pair) MapFault
-onto before (Ok pairs) = Ok (before ++ pairs)
-onto before (Err fault) = Err fault
+abbrev pub pairs_then : List Pair → Result (List Pair) MapFault → Result (List Pair) MapFault
+pairs_then before (Ok pairs) = Ok (before ++ pairs)
+pairs_then before (Err fault) = Err fault
 
 -- The fault of line n, or what comes of the rest.
-abbrev pub unless_fault : ℕ → Option MapKind → Result (List Pair) MapFault →
+abbrev pub fault_or : ℕ → Option MapKind → Result (List Pair) MapFault →
     Result (List Pair) MapFault
-unless_fault n (Some kind) rest = Err (record { kind = kind; line = n })
-unless_fault n None rest = rest
+fault_or n (Some kind) rest = Err (record { kind = kind; line = n })
+fault_or n None rest = rest
 
 -- The mapping lines from line n on, behind so many pairs, in a text of so many lines.
 abbrev pub scan : Signs → ℕ → ℕ → ℕ → List Row → Result (List Pair) MapFault
 scan signs count n total [] = Err (record { kind = NoEnd; line = count })
 scan signs count n total (row ∷ rows) =
     if is_end signs row then Ok []
-    else unless_fault n (fault_behind total (row_pairs signs row))
-    (onto (ok_pairs (row_pairs signs row))
+    else fault_or n (fault_behind total (row_pairs signs row))
+    (pairs_then (ok_pairs (row_pairs signs row))
     (scan signs count (n + 1) (total + length (ok_pairs (row_pairs signs row))) rows))
 
 -- The lines from line n on, where line n belongs to the header, in a text of so many lines.
@@ -41,7 +39,7 @@ abbrev pub scan_header : Signs → ℕ → ℕ → List Row → Result (List Pai
 scan_header signs count n [] = Err (record { kind = NoStart; line = count })
 scan_header signs count n (row ∷ rows) =
     if is_start signs row then scan signs count (n + 1) 0 rows
-    else unless_fault n (header_fault signs row)
+    else fault_or n (header_fault signs row)
     (scan_header (signs_after signs row) count (n + 1) rows)
 
 -- What a whole text stands for, from its first line on.
@@ -51,11 +49,6 @@ scan_text text = scan_header usual_signs (length (lines text)) 1 (rows_of text)
 -- What the mapping lines at the end of a text stand for, of which the first has that number.
 abbrev pub scan_rest : Signs → ℕ → List ℕ → Result (List Pair) MapFault
 scan_rest signs first text = scan signs (first + length (lines text) - 1) first 0 (rows_of text)
-
--- The text has this fault; want of memory may come of any text.
-abbrev pub Fails : ReadFault → Result (List Pair) MapFault → Type 0
-Fails Memory read = Unit {0}
-Fails (Text fault) read = read ≡ Err fault
 
 -- What a header line is where these characters are in force.
 abbrev pub IsHeaderLine : Signs → Row → HeaderLine → Type 0

@@ -4,7 +4,8 @@ ghost use Rattle.std.specs.Prelude.{◌≡◌, ◌≤◌, length, IfOk, IfErr, O
 ghost use Rattle.charmap_reader.specs.declared.fault.ReadFault.TheVariants.{Text};
 ghost use Rattle.code_pairs.specs.Tables.{HasPoints};
 ghost use Rattle.charmap_reader.specs.Charmap.{charmap_of};
-ghost use Rattle.charmap_reader.specs.Scan.{Fails};
+ghost use Rattle.charmap_reader.specs.Faults.{Fails};
+ghost use Rattle.charmap_reader.specs.Limits.{most_pairs};
 
 use crate::fault::{MapFault, MapKind, ReadFault};
 use crate::header::read_header;
@@ -24,7 +25,7 @@ fn whole_fault(kind: MapKind) -> ReadFault
 pub fn read_charmap(alloc: Global, text: &[u8]) -> Result<Charmap, ReadFault>
     ensures ok { IfOk result (λ map. charmap_of text.now ≡ Ok map.pairs.items) }
     ensures points { IfOk result (λ map. HasPoints map.pairs.items) }
-    ensures few { IfOk result (λ map. length map.pairs.items ≤ 2097152) }
+    ensures few { IfOk result (λ map. length map.pairs.items ≤ most_pairs) }
     ensures err { IfErr result (λ fault. Fails fault (charmap_of text.now)) }
 {
     if text.len() > LONGEST_TEXT as usize {

@@ -7,7 +7,9 @@ ghost use Rattle.code_pairs.specs.Tables.{HasPoints};
 ghost use Rattle.charmap_words.specs.Symbols.{span_of};
 ghost use Rattle.charmap_reader.specs.Rows.{row, row_of, is_skipped};
 ghost use Rattle.charmap_reader.specs.Mapping.{mapped, members, is_end, is_marked};
-ghost use Rattle.charmap_reader.specs.Scan.{scan_rest, Fails, IsMappingLine};
+ghost use Rattle.charmap_reader.specs.Faults.{Fails};
+ghost use Rattle.charmap_reader.specs.Limits.{most_pairs};
+ghost use Rattle.charmap_reader.specs.Scan.{scan_rest, IsMappingLine};
 
 use crate::fault::{MapFault, MapKind, ReadFault};
 use crate::members::{is_range, push_members};
@@ -88,7 +90,7 @@ fn read_mapping_line(
     line: &[u8],
     pairs: &mut Vec<Pair>,
 ) -> Result<MappingLine, AllocError>
-    requires { length pairs.old.items ≤ 2097152 }
+    requires { length pairs.old.items ≤ most_pairs }
     ensures { IfOk result (λ read.
         IsMappingLine signs (row_of line.now) pairs.old.items read pairs.new.items) }
 {
@@ -123,7 +125,7 @@ pub(crate) fn read_mapping(
     requires count { first + length (lines text.now) ≤ 2 ^ 32 - 1 }
     ensures ok { IfOk result (λ pairs. scan_rest signs first text.now ≡ Ok pairs.items) }
     ensures points { IfOk result (λ pairs. HasPoints pairs.items) }
-    ensures few { IfOk result (λ pairs. length pairs.items ≤ 2097152) }
+    ensures few { IfOk result (λ pairs. length pairs.items ≤ most_pairs) }
     ensures err { IfErr result (λ fault. Fails fault (scan_rest signs first text.now)) }
 {
     let mut pairs = Vec::new(alloc);

@@ -36,6 +36,7 @@ pub(crate) fn push_members(
     requires codes { value_of code + count ≤ 256 ^ length code }
     ensures { OnOk result (pairs.new.items ≡ pairs.old.items ++ members point code count) }
 {
+    pairs.reserve(count as usize)?;
     for k in 0..count {
         pairs.push(Pair {
             point: point + k,

@@ -5,7 +5,7 @@ use Rattle.std.proofs.lemmas.List.{nil_from_length}
 use Rattle.std.proofs.lemmas.Bool.{cases_Bool, ltb-true, ltb-false, ne_eqb}
 use Rattle.code_pairs.specs.Bytes.{big_endian, value_of, AreBytes}
 use Rattle.charmap_words.specs.Digits.{is_octal, is_decimal, is_hex, number}
-use Rattle.charmap_words.specs.Spelling.{two_digits, two_taken, three_taken, byte_of, byte_behind, byte_at, onto, then_rest, bytes_within, spelled, code_of_bytes, code_spelled}
+use Rattle.charmap_words.specs.Spelling.{two_digits, two_taken, three_taken, byte_of, byte_behind, byte_at, with_byte, byte_and_rest, bytes_within, spelled, code_of_bytes, code_spelled}
 use Rattle.charmap_words.specs.declared.codes.CodeFault.{CodeFault}
 use Rattle.charmap_words.specs.declared.codes.CodeFault.TheVariants.{BadCode, CodeLength}
 
@@ -95,9 +95,9 @@ IsTaken-byte_at escape (e ∷ es) p h =
 
 same_rest : (o : Option (ℕ × ℕ)) (text : List ℕ) (f g : List ℕ → Option (List ℕ)) →
     ((p : ℕ × ℕ) → o ≡ Some p → f (drop p.1 text) ≡ g (drop p.1 text)) →
-    then_rest o text f ≡ then_rest o text g
+    byte_and_rest o text f ≡ byte_and_rest o text g
 same_rest None text f g each = refl
-same_rest (Some p) text f g each = ap (onto p.0) (each p refl)
+same_rest (Some p) text f g each = ap (with_byte p.0) (each p refl)
 
 -- A greater bound on the number of bytes changes nothing.
 enough : (escape n m : ℕ) (text : List ℕ) → length text ≤ n → length text ≤ m →
@@ -114,12 +114,12 @@ enough escape (suc n) (suc m) (x ∷ xs) a b =
 
 -- A word spells the byte at its front, and then what the rest spells.
 spelled_front : (escape : ℕ) (text : List ℕ) (b n : ℕ) → byte_at escape text ≡ Some (b, n) →
-    spelled escape text ≡ onto b (spelled escape (drop n text))
+    spelled escape text ≡ with_byte b (spelled escape (drop n text))
 spelled_front escape [] b n e = none_some e
 spelled_front escape (x ∷ xs) b n e =
     let k = IsTaken-byte_at escape (x ∷ xs) (b, n) e in
-    ap (λ o. then_rest o (x ∷ xs) (bytes_within (length xs) escape)) e
-    ∙ ap (onto b) (enough escape (length xs) (length (drop n (x ∷ xs))) (drop n (x ∷ xs))
+    ap (λ o. byte_and_rest o (x ∷ xs) (bytes_within (length xs) escape)) e
+    ∙ ap (with_byte b) (enough escape (length xs) (length (drop n (x ∷ xs))) (drop n (x ∷ xs))
     (omega (arith, length-drop n (x ∷ xs), k.some, k.within)) (omega arith))
 
 -- A word at whose front no byte is spelled is no code.
@@ -127,7 +127,7 @@ pub spelled_none : (escape : ℕ) (text : List ℕ) → 0 < length text → byte
     spelled escape text ≡ None
 spelled_none escape [] some e = absurd (omega arith)
 spelled_none escape (x ∷ xs) some e =
-    ap (λ o. then_rest o (x ∷ xs) (bytes_within (length xs) escape)) e
+    ap (λ o. byte_and_rest o (x ∷ xs) (bytes_within (length xs) escape)) e
 
 -- What comes of some bytes behind so many that have this value.
 abbrev pub shown : ℕ → ℕ → Option (List ℕ) → Result (ℕ × ℕ) CodeFault
@@ -138,7 +138,7 @@ shown count value (Some bs) =
 
 shown_step : (count value byte value2 : ℕ) (o : Option (List ℕ)) →
     (count < 4 → value2 ≡ 256 * value + byte) →
-    shown (count + 1) value2 o ≡ shown count value (onto byte o)
+    shown (count + 1) value2 o ≡ shown count value (with_byte byte o)
 shown_step count value byte value2 None h = refl
 shown_step count value byte value2 (Some bs) h =
     let many : count + 1 + length bs ≡ count + length (byte ∷ bs) = omega arith in
@@ -161,14 +161,14 @@ code_step escape text rest count value byte value2 n e cut h =
 
 AreBytes-then : (o : Option (ℕ × ℕ)) (text : List ℕ) (f : List ℕ → Option (List ℕ)) (bs : List ℕ) →
     ((p : ℕ × ℕ) → o ≡ Some p → p.0 < 256) →
-    ((t cs : List ℕ) → f t ≡ Some cs → AreBytes cs) → then_rest o text f ≡ Some bs → AreBytes bs
+    ((t cs : List ℕ) → f t ≡ Some cs → AreBytes cs) → byte_and_rest o text f ≡ Some bs → AreBytes bs
 AreBytes-then None text f bs one more e = no e
   where
     no : {cs : List ℕ} → None ≡ Some cs → AreBytes bs
     no h = cc
 AreBytes-then (Some p) text f bs one more e = go (f (drop p.1 text)) refl e
   where
-    go : (r : Option (List ℕ)) → f (drop p.1 text) ≡ r → onto p.0 r ≡ Some bs → AreBytes bs
+    go : (r : Option (List ℕ)) → f (drop p.1 text) ≡ r → with_byte p.0 r ≡ Some bs → AreBytes bs
     go None h k = no k
       where
         no : {cs : List ℕ} → None ≡ Some cs → AreBytes bs

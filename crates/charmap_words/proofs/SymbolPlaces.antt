@@ -5,7 +5,7 @@ use Rattle.std.proofs.lemmas.List.{drop_all}
 use Rattle.code_pairs.specs.Tables.{is_point}
 use Rattle.charmap_words.specs.Digits.{is_hex, digit}
 use Rattle.charmap_words.specs.Symbols.{symbol, span, dotted}
-use Rattle.charmap_words.specs.Places.{four, both, number_in, as_point}
+use Rattle.charmap_words.specs.Places.{four, eight, number_in, as_point}
 
 eqb_comm : (a b : ℕ) → eqb a b ≡ eqb b a
 eqb_comm a b = elim (cases_eq a b) [
@@ -36,7 +36,7 @@ one_number true true true true n m e = ap (λ k. as_point (Some k)) e
 -- A number behind tests, of eight digits.
 two_numbers : (x y z h l : Bool) (n high low : ℕ) → n ≡ 65536 * high + low →
     cond ((((x && (y && true)) && (h && (l && true))) && z) && is_point n) (Some n) None
-    ≡ as_point (cond ((x && y) && z) (both (cond h (Some high) None) (cond l (Some low) None)) None)
+    ≡ as_point (cond ((x && y) && z) (eight (cond h (Some high) None) (cond l (Some low) None)) None)
 two_numbers false y z h l n high low e = refl
 two_numbers true false z h l n high low e = refl
 two_numbers true true false false l n high low e = refl

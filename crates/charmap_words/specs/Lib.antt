@@ -2,4 +2,4 @@ pub mod Digits
 pub mod Symbols
 pub mod Spelling
 pub mod Places
-pub mod Rows
+pub mod Examples

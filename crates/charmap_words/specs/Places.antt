@@ -1,5 +1,5 @@
--- Symbols and spelled bytes as they are read, place by place. `proofs/` shows that each is what the
--- definitions beside this file say.
+-- Symbols and spelled bytes as they are read, place by place. No public clause cites it: `proofs/` shows
+-- that each is what the definitions beside this file say.
 use Rattle.std.specs.Prelude.{ℕ, ◌+◌, ◌*◌, ◌&&◌, ◌==◌, if◌then◌else◌, nat_le, nat_lt, List, length, Option, Some, None, slice_index}
 use Rattle.code_pairs.specs.Tables.{is_point}
 use Rattle.charmap_words.specs.Digits.{is_decimal, is_octal, is_hex, digit}
@@ -13,10 +13,11 @@ four text k =
     + 16 * digit (slice_index text (k + 2)) + digit (slice_index text (k + 3)))
     else None
 
-abbrev pub both : Option ℕ → Option ℕ → Option ℕ
-both None low = None
-both (Some high) None = None
-both (Some high) (Some low) = Some (65536 * high + low)
+-- The number of eight digits, by its high four and its low four.
+abbrev pub eight : Option ℕ → Option ℕ → Option ℕ
+eight None low = None
+eight (Some high) None = None
+eight (Some high) (Some low) = Some (65536 * high + low)
 
 -- The number that a symbol of 7 or 11 bytes spells.
 unfoldable pub number_in : List ℕ → Option ℕ
@@ -24,8 +25,9 @@ number_in text =
     if length text == 7 && slice_index text 0 == 60 && slice_index text 1 == 85
     && slice_index text 6 == 62 then four text 2
     else (if length text == 11 && slice_index text 0 == 60 && slice_index text 1 == 85
-    && slice_index text 10 == 62 then both (four text 2) (four text 6) else None)
+    && slice_index text 10 == 62 then eight (four text 2) (four text 6) else None)
 
+-- A number that is a point.
 abbrev pub as_point : Option ℕ → Option ℕ
 as_point None = None
 as_point (Some n) = if is_point n then Some n else None

@@ -4,6 +4,7 @@ use Rattle.charmap_words.specs.Digits.{is_octal, is_decimal, is_hex, number}
 use Rattle.charmap_words.specs.declared.codes.CodeFault.{CodeFault}
 use Rattle.charmap_words.specs.declared.codes.CodeFault.TheVariants.{BadCode, CodeLength}
 
+-- Two bytes, where both are digits.
 abbrev pub two_digits : (ℕ → Bool) → ℕ → ℕ → List ℕ
 two_digits p a b = if p a && p b then a ∷ b ∷ [] else []
 
@@ -41,21 +42,22 @@ abbrev pub byte_at : ℕ → List ℕ → Option (ℕ × ℕ)
 byte_at escape [] = None
 byte_at escape (e ∷ es) = if e == escape then byte_behind es else None
 
-abbrev pub onto : ℕ → Option (List ℕ) → Option (List ℕ)
-onto b None = None
-onto b (Some bs) = Some (b ∷ bs)
+-- A byte before others, where there are any.
+abbrev pub with_byte : ℕ → Option (List ℕ) → Option (List ℕ)
+with_byte b None = None
+with_byte b (Some bs) = Some (b ∷ bs)
 
--- A byte at the front, and what the rest of the word behind it spells.
-abbrev pub then_rest : Option (ℕ × ℕ) → List ℕ → (List ℕ → Option (List ℕ)) → Option (List ℕ)
-then_rest None word rest = None
-then_rest (Some p) word rest = onto p.0 (rest (drop p.1 word))
+-- The byte at the front of a word, where one is spelled there, and behind it what the rest spells.
+abbrev pub byte_and_rest : Option (ℕ × ℕ) → List ℕ → (List ℕ → Option (List ℕ)) → Option (List ℕ)
+byte_and_rest None word rest = None
+byte_and_rest (Some p) word rest = with_byte p.0 (rest (drop p.1 word))
 
 -- The bytes that a word spells, one after another, of which there are at most n.
 abbrev pub bytes_within : ℕ → ℕ → List ℕ → Option (List ℕ)
 bytes_within n escape [] = Some []
 bytes_within zero escape (c ∷ cs) = None
 bytes_within (suc n) escape (c ∷ cs) =
-    then_rest (byte_at escape (c ∷ cs)) (c ∷ cs) (bytes_within n escape)
+    byte_and_rest (byte_at escape (c ∷ cs)) (c ∷ cs) (bytes_within n escape)
 
 -- The bytes that a word spells: each takes some bytes of it.
 abbrev pub spelled : ℕ → List ℕ → Option (List ℕ)

@@ -1,4 +1,4 @@
 pub mod Bytes
 pub mod CodeBack
 pub mod Tables
-pub mod Rows
+pub mod Examples

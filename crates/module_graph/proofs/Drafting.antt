@@ -13,7 +13,7 @@ use Rattle.modules_conf.specs.declared.kind.Kind.TheVariants.{Table, Iso2022Jp, 
 use Rattle.module_graph.specs.declared.draft.Draft.{Draft}
 use Rattle.module_graph.specs.Edges.{NamedEdge}
 use Rattle.module_graph.specs.Numbers.{with_new, same_kind, node_names, kinds_after, node_number, numbered}
-use Rattle.module_graph.specs.Drafts.{IsDraft, IsRoomy, AddsKind}
+use Rattle.module_graph.specs.Drafts.{IsDraft, IsRoomy, NumbersKind}
 use Rattle.module_graph.proofs.Firsts.{Grows, grows_refl, grows_trans, grows_insert, grows_with_new, inserted_has, position_inserted, with_new-append, length_with_new}
 
 pub bytes_itself : (bytes : List ℕ) → bytes_eq bytes bytes ≡ true
@@ -94,15 +94,15 @@ numbered_kept nodes more kinds later f g (e ∷ es) h =
     let first : numbered more later e ≡ numbered nodes kinds e = rw (from, to, module_is) refl in
     ap (λ x. x ∷ map (numbered more later) es) first ∙ ap (λ xs. numbered nodes kinds e ∷ xs) rest
 
-grows_kind : (old new : List Kind) (kind : Option Kind) (m : Option ℕ) → AddsKind old new kind m → Grows same_kind kind_itself old new
+grows_kind : (old new : List Kind) (kind : Option Kind) (m : Option ℕ) → NumbersKind old new kind m → Grows same_kind kind_itself old new
 grows_kind old new None m a = subst (Grows same_kind kind_itself old) (sym a.0) (grows_refl same_kind kind_itself old)
 grows_kind old new (Some kind) m a = subst (Grows same_kind kind_itself old) (sym a.0) (grows_insert same_kind kind_itself old kind)
 
-number_of_kind : (old new : List Kind) (kind : Option Kind) (m : Option ℕ) → AddsKind old new kind m → option_and_then (λ k. position (same_kind k) new) kind ≡ m
+number_of_kind : (old new : List Kind) (kind : Option Kind) (m : Option ℕ) → NumbersKind old new kind m → option_and_then (λ k. position (same_kind k) new) kind ≡ m
 number_of_kind old new None m a = sym a.1
 number_of_kind old new (Some kind) m a = ap (position (same_kind kind)) a.0 ∙ position_inserted same_kind kind_itself old kind ∙ sym a.1
 
-kinds_more : (old new : List Kind) (kind : Option Kind) (m : Option ℕ) → AddsKind old new kind m → with_new same_kind old (cons_option kind []) ≡ new
+kinds_more : (old new : List Kind) (kind : Option Kind) (m : Option ℕ) → NumbersKind old new kind m → with_new same_kind old (cons_option kind []) ≡ new
 kinds_more old new None m a = sym a.0
 kinds_more old new (Some kind) m a = sym a.0
 
@@ -110,7 +110,7 @@ kinds_more old new (Some kind) m a = sym a.0
 pub added : (before : List NamedEdge) (old new : Draft) (once : List (List ℕ)) (e : NamedEdge) (s t : ℕ) (m : Option ℕ) → IsDraft before old
     → once ≡ insert_key bytes_eq old.names.keys e.source → s ≡ position_or_len (bytes_eq e.source) old.names.keys
     → new.names.keys ≡ insert_key bytes_eq once e.target → t ≡ position_or_len (bytes_eq e.target) once
-    → AddsKind old.kinds.keys new.kinds.keys e.kind m
+    → NumbersKind old.kinds.keys new.kinds.keys e.kind m
     → new.edges.items ≡ old.edges.items ++ record { ordinal = e.ordinal; source = s; target = t; cost = e.cost; «module» = m } ∷ []
     → IsDraft (before ++ e ∷ []) new
 added before old new once e s t m d o1 s1 n1 t1 k1 edges1 =
@@ -121,7 +121,7 @@ added before old new once e s t m d o1 s1 n1 t1 k1 edges1 =
     ap (with_new same_kind []) (filter_map-append kind_in before (e ∷ [])) ∙ with_new-append same_kind kind_itself [] (filter_map kind_in before) (cons_option e.kind []) in
     let once_is : once ≡ insert_key bytes_eq (node_names before) e.source = o1 ∙ ap (λ ks. insert_key bytes_eq ks e.source) d.nodes in
     let nodes_are : new.names.keys ≡ node_names after = n1 ∙ ap (λ ks. insert_key bytes_eq ks e.target) once_is ∙ sym names in
-    let adds : AddsKind (kinds_after [] before) new.kinds.keys e.kind m = subst (λ ks. AddsKind ks new.kinds.keys e.kind m) d.kinds k1 in
+    let adds : NumbersKind (kinds_after [] before) new.kinds.keys e.kind m = subst (λ ks. NumbersKind ks new.kinds.keys e.kind m) d.kinds k1 in
     let kinds_are : new.kinds.keys ≡ kinds_after [] after = sym (kinds_more (kinds_after [] before) new.kinds.keys e.kind m adds) ∙ sym kinds in
     let first_grow : Grows bytes_eq bytes_itself (node_names before) (insert_key bytes_eq (node_names before) e.source) = grows_insert bytes_eq bytes_itself (node_names before) e.source in
     let next_grow : Grows bytes_eq bytes_itself (insert_key bytes_eq (node_names before) e.source) (insert_key bytes_eq (insert_key bytes_eq (node_names before) e.source) e.target) = grows_insert bytes_eq bytes_itself (insert_key bytes_eq (node_names before) e.source) e.target in

@@ -10,7 +10,7 @@ use Rattle.indexmap.specs.IndexSet.{insert_key}
 use Rattle.modules_conf.specs.declared.kind.Kind.{Kind}
 use Rattle.modules_conf.specs.declared.kind.Kind.TheVariants.{Table, Iso2022Jp, Recode}
 use Rattle.module_graph.specs.Edges.{NamedEdge}
-use Rattle.module_graph.specs.Numbers.{with_new, node_names, is_end, same_kind, kinds_after}
+use Rattle.module_graph.specs.Numbers.{with_new, node_names, has_end, same_kind, kinds_after}
 use Rattle.module_graph.proofs.Drafting.{bytes_itself, kind_itself}
 
 or_assoc : (a b c : Bool) → ((a || b) || c) ≡ (a || (b || c))
@@ -62,14 +62,14 @@ module _ {K : Type 0} (same : K → K → Bool) (is_same : (x y : K) → same x 
   with_new_distinct seen [] h = h
   with_new_distinct seen (x ∷ xs) h = with_new_distinct (insert_key same seen x) xs (insert_distinct seen x h)
 
-ends_have : (name : List ℕ) (es : List NamedEdge) → list_any (bytes_eq name) (flat_map (λ (e : NamedEdge). e.source ∷ e.target ∷ []) es) ≡ is_end es name
+ends_have : (name : List ℕ) (es : List NamedEdge) → list_any (bytes_eq name) (flat_map (λ (e : NamedEdge). e.source ∷ e.target ∷ []) es) ≡ has_end es name
 ends_have name [] = refl
 ends_have name (e ∷ es) =
     sym (or_assoc (bytes_eq name e.source) (bytes_eq name e.target) (list_any (bytes_eq name) (flat_map (λ (x : NamedEdge). x.source ∷ x.target ∷ []) es)))
     ∙ ap (λ b. (bytes_eq name e.source || bytes_eq name e.target) || b) (ends_have name es)
 
 -- a name is a node exactly where it is an end of an edge
-pub nodes_are_ends : (es : List NamedEdge) (name : List ℕ) → list_any (bytes_eq name) (node_names es) ≡ is_end es name
+pub nodes_are_ends : (es : List NamedEdge) (name : List ℕ) → list_any (bytes_eq name) (node_names es) ≡ has_end es name
 nodes_are_ends es name = with_new_has bytes_eq (λ x y h. (bytes_eq-Decides x y).0 h) bytes_itself [] (flat_map (λ e. e.source ∷ e.target ∷ []) es) name ∙ ends_have name es
 
 -- no name is two nodes

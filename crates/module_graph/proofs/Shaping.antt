@@ -15,11 +15,11 @@ use Rattle.modules_conf.specs.declared.kind.Kind.{Kind}
 use Rattle.module_graph.specs.declared.edge.Edge.{Edge}
 use Rattle.module_graph.specs.declared.draft.Draft.{Draft}
 use Rattle.module_graph.specs.Edges.{NamedEdge, builtin_pair, builtin_edges, named_edges, skipped_lines, edge_by, edge_of_line, kind_of_line}
-use Rattle.module_graph.specs.Numbers.{same_kind, node_names, kinds_after, node_number, numbered, graph_of, is_end}
+use Rattle.module_graph.specs.Numbers.{same_kind, node_names, kinds_after, node_number, numbered, graph_of, has_end}
 use Rattle.module_graph.proofs.NodeLaws.{nodes_are_ends, nodes_differ, modules_differ}
 use Rattle.module_graph.specs.Graph.{Shape, IsEdge, IsGraph, IsKnown}
 use Rattle.module_graph.specs.Drafts.{IsDraft}
-use Rattle.module_graph.specs.Rows.{AreRows, IsIndexed}
+use Rattle.module_graph.specs.ByTarget.{AreByTarget, IsIndexed}
 use Rattle.module_graph.proofs.Firsts.{found_within, position_found}
 use Rattle.module_graph.proofs.Drafting.{AllIn, HasKind, all_named_in, few_nodes, few_kinds}
 use Rattle.module_graph.proofs.Whole.{length_named}
@@ -168,15 +168,15 @@ targets_fit lines bindings h d is =
     subst (λ ns. All (λ (e : Edge). e.target < length ns) d.edges.items) (sym is.nodes)
     (subst (All (λ (e : Edge). e.target < length (graph_of lines bindings).nodes)) (sym is.edges) (λ k x fit. ((is_graph lines bindings h).edges k x fit).target))
 
--- with its rows it is indexed
-pub indexed : (lines : List EdgeLine) (bindings : List Binding) → IsWithinLimits lines → (d : Draft) (skipped : ℕ) (rows : List (Vec Edge Global)) → IsDraft (named_edges lines bindings) d → skipped ≡ skipped_lines lines bindings → AreRows rows d.edges.items (length d.names.keys)
-    → IsIndexed (record { nodes = d.names.keys; edges = d.edges.items; kinds = d.kinds.keys; skipped = skipped }) rows
-indexed lines bindings h d skipped rows is counted sorted = record {
+-- with its edges by target it is indexed
+pub indexed : (lines : List EdgeLine) (bindings : List Binding) → IsWithinLimits lines → (d : Draft) (skipped : ℕ) (lists : List (Vec Edge Global)) → IsDraft (named_edges lines bindings) d → skipped ≡ skipped_lines lines bindings → AreByTarget lists d.edges.items (length d.names.keys)
+    → IsIndexed (record { nodes = d.names.keys; edges = d.edges.items; kinds = d.kinds.keys; skipped = skipped }) lists
+indexed lines bindings h d skipped lists is counted sorted = record {
   graph = subst IsGraph (sym (drafted_graph lines bindings d skipped is counted)) (is_graph lines bindings h);
   sorted = sorted;
   few_kinds = subst (λ ks. length ks < 2 ^ 30) (sym is.kinds) (few_modules lines bindings h);
 }
 
 -- its nodes are the ends of its edges
-pub node_ends : (lines : List EdgeLine) (bindings : List Binding) (d : Draft) → IsDraft (named_edges lines bindings) d → (name : List ℕ) → list_any (bytes_eq name) d.names.keys ≡ is_end (named_edges lines bindings) name
+pub node_ends : (lines : List EdgeLine) (bindings : List Binding) (d : Draft) → IsDraft (named_edges lines bindings) d → (name : List ℕ) → list_any (bytes_eq name) d.names.keys ≡ has_end (named_edges lines bindings) name
 node_ends lines bindings d is name = ap (list_any (bytes_eq name)) is.nodes ∙ nodes_are_ends (named_edges lines bindings) name

@@ -18,8 +18,8 @@ pub record IsRoomy (d : Draft) : Type 0 where
   pub nodes : length d.names.keys < 2 ^ 30
   pub kinds : length d.kinds.keys < 2 ^ 30
 
--- The kind goes last where it is new, and the number is its place; without a kind nothing changes.
-abbrev pub AddsKind : List Kind → List Kind → Option Kind → Option ℕ → Type 0
-AddsKind old new None number = (new ≡ old) × (number ≡ None)
-AddsKind old new (Some kind) number =
+-- A kind, if there is one, gets its place as its number: it goes last where it is new.
+abbrev pub NumbersKind : List Kind → List Kind → Option Kind → Option ℕ → Type 0
+NumbersKind old new None number = (new ≡ old) × (number ≡ None)
+NumbersKind old new (Some kind) number =
     (new ≡ insert_key same_kind old kind) × (number ≡ Some (position_or_len (same_kind kind) old))

@@ -2,5 +2,5 @@ pub mod Edges
 pub mod Numbers
 pub mod Graph
 pub mod Laws
-pub mod Rows
+pub mod ByTarget
 pub mod Drafts

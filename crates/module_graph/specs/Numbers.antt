@@ -33,9 +33,9 @@ same_kind (Recode a b) (Recode c d) = bytes_eq a c && bytes_eq b d
 abbrev pub node_names : List NamedEdge → List (List ℕ)
 node_names edges = with_new bytes_eq [] (flat_map (λ e. e.source ∷ e.target ∷ []) edges)
 
--- A name is an end of one of these edges.
-abbrev pub is_end : List NamedEdge → List ℕ → Bool
-is_end edges name = list_any (λ e. bytes_eq name e.source || bytes_eq name e.target) edges
+-- One of these edges has the name as an end.
+abbrev pub has_end : List NamedEdge → List ℕ → Bool
+has_end edges name = list_any (λ e. bytes_eq name e.source || bytes_eq name e.target) edges
 
 -- The modules are the kinds seen before, and behind them the new ones of the edges.
 abbrev pub kinds_after : List Kind → List NamedEdge → List Kind

@@ -7,7 +7,7 @@ ghost use Rattle.module_graph.specs.Edges.{kind_bound, kind_of_line};
 ghost use Rattle.module_graph.specs.Edges.{allows, suits, may_end, is_internal};
 
 use modules_conf::{Binding, EdgeLine, Kind};
-use names_alias::{Name, Word, internal, is_builtin};
+use names_alias::{Name, Word, is_builtin, is_internal};
 use std::alloc::{AllocError, Global};
 use std::collections::HashMap;
 
@@ -25,18 +25,12 @@ pub fn kinds_by_name(alloc: Global, bindings: &[Binding]) -> Result<HashMap<Word
     Ok(kinds)
 }
 
-/// Whether a name is that of the set between all others.
-fn is_between(name: &Name) -> bool
-    ensures { result ≡ is_internal name.now }
-{
-    *name == internal()
-}
-
-/// Whether a module line may end at a name.
-fn is_allowed(name: &Name) -> bool
+/// Whether a module line may end at a name of which it is known whether it is INTERNAL.
+fn is_allowed(name: &Name, internal: bool) -> bool
+    requires { internal ≡ is_internal name.now }
     ensures { result ≡ may_end name.now }
 {
-    is_between(name) || !is_builtin(name)
+    internal || !is_builtin(name)
 }
 
 /// Whether a kind suits ends of which it is known whether they are INTERNAL.
@@ -57,13 +51,13 @@ fn is_suited(kind: &Kind, from: bool, to: bool) -> bool
 fn has_edge(line: &EdgeLine, kind: &Kind) -> bool
     ensures { result ≡ allows line.now kind.now }
 {
-    is_allowed(&line.source)
-        && is_allowed(&line.target)
-        && is_suited(kind, is_between(&line.source), is_between(&line.target))
+    let from = is_internal(&line.source);
+    let to = is_internal(&line.target);
+    is_allowed(&line.source, from) && is_allowed(&line.target, to) && is_suited(kind, from, to)
 }
 
 /// The kind by which a module line gives an edge, if it gives one.
-pub fn kind_of<'k>(line: &EdgeLine, kinds: &'k HashMap<Word, Kind>) -> Option<&'k Kind>
+pub fn kind_of_line<'k>(line: &EdgeLine, kinds: &'k HashMap<Word, Kind>) -> Option<&'k Kind>
     ensures { (bindings : List Binding)
         → ((name : List ℕ) → get bytes_eq kinds.now name ≡ kind_bound bindings name)
         → option_copied result ≡ kind_of_line bindings line.now }

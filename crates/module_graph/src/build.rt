@@ -8,7 +8,7 @@ ghost use Rattle.module_graph.specs.Edges.{NamedEdge, builtin_edges, named_edges
 ghost use Rattle.module_graph.specs.Edges.{kind_bound, kind_of_line, edge_of_line};
 ghost use Rattle.module_graph.specs.Drafts.{IsDraft, IsRoomy};
 
-use crate::bound::{kind_of, kinds_by_name};
+use crate::bound::{kind_of_line, kinds_by_name};
 use crate::draft::Draft;
 use modules_conf::{Binding, EdgeLine, Kind};
 use names_alias::{Word, builtin_set, internal};
@@ -49,7 +49,7 @@ fn add_line(
         → (added ≡ is_some (kind_of_line bindings line.now))
         × IsDraft (before ++ filter_map (edge_of_line bindings) (line.now ∷ [])) draft.new) }
 {
-    let Some(kind) = kind_of(line, kinds) else {
+    let Some(kind) = kind_of_line(line, kinds) else {
         return Ok(false);
     };
     draft.add(

@@ -6,7 +6,7 @@ ghost use Rattle.std.specs.Str.{bytes_eq};
 ghost use Rattle.indexmap.specs.IndexSet.{insert_key};
 ghost use Rattle.module_graph.specs.Numbers.{same_kind};
 ghost use Rattle.module_graph.specs.Edges.{NamedEdge};
-ghost use Rattle.module_graph.specs.Drafts.{IsDraft, IsRoomy, AddsKind};
+ghost use Rattle.module_graph.specs.Drafts.{IsDraft, IsRoomy, NumbersKind};
 
 use crate::edge::Edge;
 use indexmap::IndexSet;
@@ -38,7 +38,7 @@ fn number_of_kind(
     kind: Option<&Kind>,
 ) -> Result<Option<u32>, AllocError>
     requires { length kinds.old.keys < 2 ^ 31 }
-    ensures { IfOk result (AddsKind kinds.old.keys kinds.new.keys (option_copied kind.entry)) }
+    ensures { IfOk result (NumbersKind kinds.old.keys kinds.new.keys (option_copied kind.entry)) }
 {
     let Some(kind) = kind else {
         return Ok(None);

@@ -6,12 +6,12 @@ ghost use Rattle.std.specs.Str.{bytes_eq};
 ghost use Rattle.modules_conf.specs.Limits.{IsWithinLimits};
 ghost use Rattle.module_graph.specs.Edges.{named_edges};
 ghost use Rattle.module_graph.specs.Graph.{IsGraph, edges_into};
-ghost use Rattle.module_graph.specs.Numbers.{graph_of, is_end};
+ghost use Rattle.module_graph.specs.Numbers.{graph_of, has_end};
 
 use crate::build::drafted;
+use crate::by_target::edges_by_target;
 use crate::draft::Draft;
 use crate::edge::Edge;
-use crate::rows::rows_by_target;
 use indexmap::IndexSet;
 use modules_conf::{Bindings, Conf, Kind};
 use names_alias::Name;
@@ -23,20 +23,21 @@ use std::marker::Model;
 pub struct Graph {
     names: IndexSet<Name>,
     edges: Vec<Edge>,
-    rows: Vec<Vec<Edge>>,
+    by_target: Vec<Vec<Edge>>,
     kinds: IndexSet<Kind>,
     skipped: u32,
 }
 
 impl Model for Graph {
     ghost use Rattle.module_graph.specs.Graph.{Shape};
-    ghost use Rattle.module_graph.specs.Rows.{shape, IsIndexed};
+    ghost use Rattle.module_graph.specs.ByTarget.{shape, IsIndexed};
 
     ghost Value = { Shape };
 
     ghost view = { λ g. shape g.names.keys g.edges.items g.kinds.keys g.skipped };
 
-    ghost invariant = { λ g. IsIndexed (shape g.names.keys g.edges.items g.kinds.keys g.skipped) g.rows.items };
+    ghost invariant = { λ g. IsIndexed (shape g.names.keys g.edges.items g.kinds.keys g.skipped)
+        g.by_target.items };
 }
 
 impl Graph {
@@ -50,7 +51,7 @@ impl Graph {
         ensures value { IfOk result (λ graph. graph ≡ graph_of conf.now.edges bindings.now) }
         // A name is a node exactly where it is an end of an edge.
         ensures ends { IfOk result (λ graph. (name : List ℕ) → list_any (bytes_eq name) graph.nodes
-            ≡ is_end (named_edges conf.now.edges bindings.now) name) }
+            ≡ has_end (named_edges conf.now.edges bindings.now) name) }
     {
         let (draft, skipped) = drafted(alloc, conf.edges.as_slice(), bindings.as_slice())?;
         let Draft {
@@ -58,11 +59,11 @@ impl Graph {
             edges,
             kinds,
         } = draft;
-        let rows = rows_by_target(alloc, &edges, names.len())?;
+        let by_target = edges_by_target(alloc, &edges, names.len())?;
         Ok(Graph {
             names,
             edges,
-            rows,
+            by_target,
             kinds,
             skipped,
         })
@@ -107,7 +108,7 @@ impl Graph {
         requires { node < length self.now.nodes }
         ensures { result.now ≡ edges_into self.now.edges node }
     {
-        &self.rows[node as usize]
+        &self.by_target[node as usize]
     }
 
     /// The edge of an ordinal, or none where no edge has it.

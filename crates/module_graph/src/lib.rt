@@ -7,11 +7,11 @@
 
 mod bound;
 mod build;
+mod by_target;
 mod draft;
 mod edge;
 mod graph;
 mod laws;
-mod rows;
 
 pub use edge::Edge;
 pub use graph::Graph;

@@ -6,8 +6,8 @@ use Rattle.std.specs.Str.{bytes_eq}
 use Rattle.std.proofs.lemmas.Bool.{lt-leb}
 use Rattle.modules_conf.specs.Charmaps.{names_charmaps}
 use Rattle.text_lines.specs.Words.{words}
-use Rattle.modules_conf.specs.Bindings.{Row, counts, rows_among, bound_name, binding_of, binding_unless, kind_of}
-use Rattle.modules_conf.specs.BindingRows.{is_name_of, with_row, unless_twice, continued, with_rows, Binds, RefusesRow}
+use Rattle.modules_conf.specs.Bindings.{Row, counts, rows_among, bound_name, binding_of, binding_or_fault, kind_of_words}
+use Rattle.modules_conf.specs.BindingRows.{is_name_of, with_row, with_binding, continued, with_rows, Binds, RefusesRow}
 use Rattle.modules_conf.specs.Numbers.{most_lines}
 use Rattle.modules_conf.specs.declared.kind.Kind.{Kind}
 use Rattle.modules_conf.specs.declared.bindings.Binding.{Binding}
@@ -19,15 +19,15 @@ kept_name : (t : Bool) (line : ℕ) (name : List ℕ) (kind : Kind) (fault : Bin
 kept_name true line name kind fault b is = let same : record { line = line; name = name; kind = kind } ≡ b = cc in sym (ap (λ (x : Binding). x.name) same)
 kept_name false line name kind fault b is = absurd (cc)
 
-name-binding_unless : (line : ℕ) (name : List ℕ) (kind : Result Kind BindFault) (b : Binding) → binding_unless line name kind ≡ Ok b → b.name ≡ name
-name-binding_unless line name (Err fault) b is = absurd (cc)
-name-binding_unless line name (Ok kind) b is = kept_name (nat_le (length name) 64 && names_charmaps kind) line name kind (BadWord line) b is
+name-binding_or_fault : (line : ℕ) (name : List ℕ) (kind : Result Kind BindFault) (b : Binding) → binding_or_fault line name kind ≡ Ok b → b.name ≡ name
+name-binding_or_fault line name (Err fault) b is = absurd (cc)
+name-binding_or_fault line name (Ok kind) b is = kept_name (nat_le (length name) 64 && names_charmaps kind) line name kind (BadWord line) b is
 
 -- A binding has the name that its line binds.
 pub name-binding_of : (line : ℕ) (ws : List (List ℕ)) (b : Binding) → binding_of line ws ≡ Ok b → b.name ≡ bound_name (line, ws)
 name-binding_of line [] b is = absurd (cc)
 name-binding_of line (name ∷ []) b is = absurd (cc)
-name-binding_of line (name ∷ kind ∷ maps) b is = name-binding_unless line name (kind_of line kind maps) b is
+name-binding_of line (name ∷ kind ∷ maps) b is = name-binding_or_fault line name (kind_of_words line kind maps) b is
 
 -- A name is that of a binding where it is among the names of the bindings.
 pub is_name_of-map : (done : List Binding) (name : List ℕ) → list_any (bytes_eq name) (map (λ (b : Binding). b.name) done) ≡ is_name_of done name
@@ -35,7 +35,7 @@ is_name_of-map [] name = refl
 is_name_of-map (b ∷ bs) name = ap (λ t. bytes_eq name b.name || t) (is_name_of-map bs name)
 
 with_row-at : (done : List Binding) (line : ℕ) (ws : List (List ℕ)) (b : Binding) (twice : Bool) → length done < most_lines → binding_of line ws ≡ Ok b
-    → list_any (bytes_eq b.name) (map (λ (b : Binding). b.name) done) ≡ twice → with_row done (line, ws) ≡ unless_twice done line twice (Ok b)
+    → list_any (bytes_eq b.name) (map (λ (b : Binding). b.name) done) ≡ twice → with_row done (line, ws) ≡ with_binding done line twice (Ok b)
 with_row-at done line ws b twice few is bound =
     let same : is_name_of done (bound_name (line, ws)) ≡ twice =
     ap (is_name_of done) (sym (name-binding_of line ws b is)) ∙ sym (is_name_of-map done b.name) ∙ bound in

@@ -9,8 +9,8 @@ use Rattle.std.proofs.lemmas.List.Folds.{list_any-append}
 use Rattle.std.proofs.lemmas.List.Quantifiers.{all_pairs_push}
 use Rattle.std.proofs.lemmas.Slice.Eq.{bytes_eq-Decides}
 use Rattle.modules_conf.specs.Charmaps.{names_charmaps}
-use Rattle.modules_conf.specs.Bindings.{Row, rows, bound_name, binding_of, binding_unless, kind_of, is_bound, fault_unless, fault_at, ok_of, bindings_unless, bindings_of}
-use Rattle.modules_conf.specs.BindingRows.{is_name_of, with_row, unless_twice, continued, with_rows}
+use Rattle.modules_conf.specs.Bindings.{Row, rows, bound_name, binding_of, binding_or_fault, kind_of_words, is_bound, fault_or_twice, fault_at, ok_of, bindings_or_fault, bindings_of}
+use Rattle.modules_conf.specs.BindingRows.{is_name_of, with_row, with_binding, continued, with_rows}
 use Rattle.modules_conf.specs.Limits.{AreSound}
 use Rattle.modules_conf.specs.Numbers.{most_lines}
 use Rattle.modules_conf.specs.declared.kind.Kind.{Kind}
@@ -21,13 +21,13 @@ use Rattle.modules_conf.proofs.BindingLemmas.{name-binding_of}
 
 one_row : (many twice : Bool) (line : ℕ) (read : Result Binding BindFault) (done : List Binding) (faults : List BindFault) (oks : List Binding)
     (rest : List Binding → Result (List Binding) BindFault)
-    → ((b : Binding) → read ≡ Ok b → bindings_unless (slice_get faults 0) ((done ++ b ∷ []) ++ oks) ≡ rest (done ++ b ∷ []))
-    → bindings_unless (slice_get (cons_option (cond many (Some (TooMany line)) (fault_unless line twice read)) faults) 0) (done ++ cons_option (ok_of read) oks)
-    ≡ continued (cond many (Err (TooMany line)) (unless_twice done line twice read)) rest
+    → ((b : Binding) → read ≡ Ok b → bindings_or_fault (slice_get faults 0) ((done ++ b ∷ []) ++ oks) ≡ rest (done ++ b ∷ []))
+    → bindings_or_fault (slice_get (cons_option (cond many (Some (TooMany line)) (fault_or_twice line twice read)) faults) 0) (done ++ cons_option (ok_of read) oks)
+    ≡ continued (cond many (Err (TooMany line)) (with_binding done line twice read)) rest
 one_row true twice line read done faults oks rest more = refl
 one_row false twice line (Err fault) done faults oks rest more = refl
 one_row false true line (Ok b) done faults oks rest more = refl
-one_row false false line (Ok b) done faults oks rest more = ap (bindings_unless (slice_get faults 0)) (sym (append_assoc done (b ∷ []) oks)) ∙ more b refl
+one_row false false line (Ok b) done faults oks rest more = ap (bindings_or_fault (slice_get faults 0)) (sym (append_assoc done (b ∷ []) oks)) ∙ more b refl
 
 -- The names of the lines that were read are those of the bindings that they gave.
 abbrev SameNames : List Row → List Binding → Type 0
@@ -41,21 +41,21 @@ SameNames-push read done row b same is = λ name.
     ∙ sym (list_any-append (λ (x : Binding). bytes_eq name x.name) done (b ∷ []))
 
 fault_here : (all read rest : List Row) (row : Row) (done : List Binding) (n : ℕ) → all ≡ read ++ row ∷ rest → n ≡ length read → n ≡ length done → SameNames read done
-    → fault_at all n row ≡ cond (nat_le most_lines (length done)) (Some (TooMany row.0)) (fault_unless row.0 (is_name_of done (bound_name row)) (binding_of row.0 row.1))
+    → fault_at all n row ≡ cond (nat_le most_lines (length done)) (Some (TooMany row.0)) (fault_or_twice row.0 (is_name_of done (bound_name row)) (binding_of row.0 row.1))
 fault_here all read rest row done n is at count same =
     let front : take n all ≡ read = ap (λ k. take k all) at ∙ ap (take (length read)) is ∙ take-append_seam read (row ∷ rest) in
-    ap (λ before. cond (nat_le most_lines n) (Some (TooMany row.0)) (fault_unless row.0 (is_bound before (bound_name row)) (binding_of row.0 row.1))) front
-    ∙ ap (λ t. cond (nat_le most_lines n) (Some (TooMany row.0)) (fault_unless row.0 t (binding_of row.0 row.1))) (same (bound_name row))
-    ∙ ap (λ k. cond (nat_le most_lines k) (Some (TooMany row.0)) (fault_unless row.0 (is_name_of done (bound_name row)) (binding_of row.0 row.1))) count
+    ap (λ before. cond (nat_le most_lines n) (Some (TooMany row.0)) (fault_or_twice row.0 (is_bound before (bound_name row)) (binding_of row.0 row.1))) front
+    ∙ ap (λ t. cond (nat_le most_lines n) (Some (TooMany row.0)) (fault_or_twice row.0 t (binding_of row.0 row.1))) (same (bound_name row))
+    ∙ ap (λ k. cond (nat_le most_lines k) (Some (TooMany row.0)) (fault_or_twice row.0 (is_name_of done (bound_name row)) (binding_of row.0 row.1))) count
 
 with_rows-left : (all read rest : List Row) (done : List Binding) (n : ℕ) → all ≡ read ++ rest → n ≡ length read → n ≡ length done → SameNames read done
-    → bindings_unless (slice_get (filter_map (λ p. fault_at all p.0 p.1) (enumerate_from n rest)) 0) (done ++ filter_map (λ row. ok_of (binding_of row.0 row.1)) rest) ≡ with_rows rest done
+    → bindings_or_fault (slice_get (filter_map (λ p. fault_at all p.0 p.1) (enumerate_from n rest)) 0) (done ++ filter_map (λ row. ok_of (binding_of row.0 row.1)) rest) ≡ with_rows rest done
 unfolding with_rows
 with_rows-left all read [] done n is at count same = ap Ok (append-nil done)
 with_rows-left all read (row ∷ rest) done n is at count same =
     let faults : List BindFault = filter_map (λ p. fault_at all p.0 p.1) (enumerate_from (n + 1) rest) in
     let oks : List Binding = filter_map (λ row. ok_of (binding_of row.0 row.1)) rest in
-    ap (λ o. bindings_unless (slice_get (cons_option o faults) 0) (done ++ cons_option (ok_of (binding_of row.0 row.1)) oks)) (fault_here all read rest row done n is at count same)
+    ap (λ o. bindings_or_fault (slice_get (cons_option o faults) 0) (done ++ cons_option (ok_of (binding_of row.0 row.1)) oks)) (fault_here all read rest row done n is at count same)
     ∙ one_row (nat_le most_lines (length done)) (is_name_of done (bound_name row)) row.0 (binding_of row.0 row.1) done faults oks (with_rows rest)
     (λ b read_as. with_rows-left all (read ++ row ∷ []) rest (done ++ b ∷ []) (n + 1) (is ∙ sym (append_assoc read (row ∷ []) rest))
     (omega (arith, length-append read (row ∷ []))) (omega (arith, length-append done (b ∷ [])))
@@ -79,14 +79,14 @@ charmaps_kept t line name kind fault b is = at t (names_charmaps kind) refl is
     at true false u is = absurd (cc)
     at false u e is = absurd (cc)
 
-charmaps-binding_unless : (line : ℕ) (name : List ℕ) (kind : Result Kind BindFault) (b : Binding) → binding_unless line name kind ≡ Ok b → names_charmaps b.kind ≡ true
-charmaps-binding_unless line name (Err fault) b is = absurd (cc)
-charmaps-binding_unless line name (Ok kind) b is = charmaps_kept (nat_le (length name) 64) line name kind (BadWord line) b is
+charmaps-binding_or_fault : (line : ℕ) (name : List ℕ) (kind : Result Kind BindFault) (b : Binding) → binding_or_fault line name kind ≡ Ok b → names_charmaps b.kind ≡ true
+charmaps-binding_or_fault line name (Err fault) b is = absurd (cc)
+charmaps-binding_or_fault line name (Ok kind) b is = charmaps_kept (nat_le (length name) 64) line name kind (BadWord line) b is
 
 charmaps-binding_of : (line : ℕ) (ws : List (List ℕ)) (b : Binding) → binding_of line ws ≡ Ok b → names_charmaps b.kind ≡ true
 charmaps-binding_of line [] b is = absurd (cc)
 charmaps-binding_of line (name ∷ []) b is = absurd (cc)
-charmaps-binding_of line (name ∷ kind ∷ maps) b is = charmaps-binding_unless line name (kind_of line kind maps) b is
+charmaps-binding_of line (name ∷ kind ∷ maps) b is = charmaps-binding_or_fault line name (kind_of_words line kind maps) b is
 
 -- A name that is no binding's differs from each.
 other_names : (done : List Binding) (name : List ℕ) → is_name_of done name ≡ false → (k : ℕ) (d : Binding) → k < length done → (get_or done k d).name ≢ name
@@ -109,7 +109,7 @@ AreSound-push done b sound free charmaps = record {
 }
 
 AreSound-unless : (done more : List Binding) (line : ℕ) (ws : List (List ℕ)) (twice : Bool) (read : Result Binding BindFault) → AreSound done → binding_of line ws ≡ read
-    → is_name_of done (bound_name (line, ws)) ≡ twice → unless_twice done line twice read ≡ Ok more → AreSound more
+    → is_name_of done (bound_name (line, ws)) ≡ twice → with_binding done line twice read ≡ Ok more → AreSound more
 AreSound-unless done more line ws twice (Err fault) sound is bound taken = absurd (cc)
 AreSound-unless done more line ws true (Ok b) sound is bound taken = absurd (cc)
 AreSound-unless done more line ws false (Ok b) sound is bound taken =
@@ -117,7 +117,7 @@ AreSound-unless done more line ws false (Ok b) sound is bound taken =
     subst AreSound same (AreSound-push done b sound (ap (is_name_of done) (name-binding_of line ws b is) ∙ bound) (charmaps-binding_of line ws b is))
 
 AreSound-row : (done more : List Binding) (row : Row) (many : Bool) → AreSound done
-    → cond many (Err (TooMany row.0)) (unless_twice done row.0 (is_name_of done (bound_name row)) (binding_of row.0 row.1)) ≡ Ok more → AreSound more
+    → cond many (Err (TooMany row.0)) (with_binding done row.0 (is_name_of done (bound_name row)) (binding_of row.0 row.1)) ≡ Ok more → AreSound more
 AreSound-row done more row true sound taken = absurd (cc)
 AreSound-row done more row false sound taken = AreSound-unless done more row.0 row.1 (is_name_of done (bound_name row)) (binding_of row.0 row.1) sound refl refl taken
 

@@ -10,7 +10,7 @@ use Rattle.text_lines.specs.Lines.{lines}
 use Rattle.text_lines.proofs.LineLemmas.{length-lines}
 use Rattle.names_alias.specs.NameForm.{normal_of}
 use Rattle.modules_conf.specs.Cost.{is_digit, decimal, cost_of}
-use Rattle.modules_conf.specs.Modules.{conf_words, both, edge_between, edge_line, edges_among, edge_lines, alias_lines, passed_lines, line_too_many, conf_unless, conf_of}
+use Rattle.modules_conf.specs.Modules.{conf_words, both, edge_between, edge_line, edges_among, edge_lines, alias_lines, passed_lines, line_too_many, conf_or_fault, conf_of}
 use Rattle.modules_conf.specs.Limits.{IsWithinLimits}
 use Rattle.text_lines.specs.Limits.{longest_text}
 use Rattle.modules_conf.specs.Numbers.{most_cost, most_lines}
@@ -91,7 +91,7 @@ costs_from m [] = All-nil _
 costs_from m (l ∷ ls) =
     All-cons_option (λ (e : EdgeLine). (1 ≤ e.cost) × (e.cost ≤ most_cost)) (edge_line m (conf_words l)) (edges_among (enumerate_from (m + 1) ls)) (IsCost-edge_line m (conf_words l)) (costs_from (m + 1) ls)
 
-kept_conf : (o : Option ℕ) (a b : Conf) → conf_unless o a ≡ Ok b → a ≡ b
+kept_conf : (o : Option ℕ) (a b : Conf) → conf_or_fault o a ≡ Ok b → a ≡ b
 kept_conf None a b is = cc
 kept_conf (Some n) a b is = absurd (cc)
 

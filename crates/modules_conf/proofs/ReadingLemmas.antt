@@ -7,7 +7,7 @@ use Rattle.std.proofs.lemmas.Option.{slice_get_past}
 use Rattle.std.proofs.lemmas.Bool.{lt-ltb}
 use Rattle.std.proofs.lemmas.List.Sums.{sum_by-cons}
 use Rattle.text_lines.specs.Lines.{numbered_lines}
-use Rattle.modules_conf.specs.Modules.{conf_words, edge_line, alias_line, edges_among, aliases_among, passed_among, is_passed, least_of, line_too_many, checked_conf, conf_unless, conf_of}
+use Rattle.modules_conf.specs.Modules.{conf_words, edge_line, alias_line, edges_among, aliases_among, passed_among, is_passed, least_of, line_too_many, checked_conf, conf_or_fault, conf_of}
 use Rattle.modules_conf.specs.Reading.{conf_with, IsFewEnough, Takes, Refuses}
 use Rattle.modules_conf.specs.Numbers.{most_lines}
 use Rattle.modules_conf.specs.declared.lines.EdgeLine.{EdgeLine}
@@ -150,8 +150,8 @@ later_than : {X : Type 0} (line : X → ℕ) (f : ℕ × List ℕ → Option X) 
 later_than line f numbers n xs ls few x is =
     later_get line f numbers n (n + 1) ls (most_lines - length xs) x (omega arith) (sym (slice_get-behind xs (filter_map f (enumerate_from (n + 1) ls)) most_lines few) ∙ is)
 
-unless_least : (o : Option ℕ) (n : ℕ) (conf : Conf) → o ≡ Some n → conf_unless o conf ≡ Err (TooManyLines n)
-unless_least o n conf is = ap (λ l. conf_unless l conf) is
+unless_least : (o : Option ℕ) (n : ℕ) (conf : Conf) → o ≡ Some n → conf_or_fault o conf ≡ Err (TooManyLines n)
+unless_least o n conf is = ap (λ l. conf_or_fault l conf) is
 
 -- A module line beyond the limit is refused, whatever lines follow.
 pub Refuses-edge : (conf : Conf) (n : ℕ) (line : List ℕ) (e : EdgeLine) → edge_line n (conf_words line) ≡ Some e → IsFewEnough conf → most_lines ≤ length conf.edges

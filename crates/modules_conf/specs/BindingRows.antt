@@ -1,4 +1,4 @@
--- What a reader that stands between two lines of a bindings text will answer.
+-- What a reader that stands between two lines of a bindings text will answer. No public clause cites it.
 use Rattle.std.specs.Prelude.{◌≡◌, ℕ, Bool, nat_le, if◌then◌else◌, List, [], ◌∷◌, ◌++◌, length, Option, Some, None, Result, Ok, Err}
 use Rattle.std.specs.List.{list_any}
 use Rattle.std.specs.Str.{bytes_eq}
@@ -15,15 +15,15 @@ abbrev pub is_name_of : List Binding → List ℕ → Bool
 is_name_of done name = list_any (λ b. bytes_eq name b.name) done
 
 -- The bindings with one more, unless its name is bound already.
-abbrev pub unless_twice : List Binding → ℕ → Bool → Result Binding BindFault → Result (List Binding) BindFault
-unless_twice done line twice (Ok b) = if twice then Err (Twice line) else Ok (done ++ b ∷ [])
-unless_twice done line twice (Err fault) = Err fault
+abbrev pub with_binding : List Binding → ℕ → Bool → Result Binding BindFault → Result (List Binding) BindFault
+with_binding done line twice (Ok b) = if twice then Err (Twice line) else Ok (done ++ b ∷ [])
+with_binding done line twice (Err fault) = Err fault
 
 -- The bindings behind one more line that counts.
 abbrev pub with_row : List Binding → Row → Result (List Binding) BindFault
 with_row done row =
     if nat_le most_lines (length done) then Err (TooMany row.0)
-    else unless_twice done row.0 (is_name_of done (bound_name row)) (binding_of row.0 row.1)
+    else with_binding done row.0 (is_name_of done (bound_name row)) (binding_of row.0 row.1)
 
 -- What follows bindings, unless there is a fault.
 abbrev pub continued : Result (List Binding) BindFault → (List Binding → Result (List Binding) BindFault)

@@ -39,23 +39,24 @@ abbrev pub two_maps : (List ℕ → List ℕ → Kind) → List (List ℕ) → O
 two_maps make (first ∷ second ∷ []) = Some (make first second)
 two_maps make _ = None
 
--- The kind, or that the line has a wrong number of words.
-abbrev pub kind_unless : ℕ → Option Kind → Result Kind BindFault
-kind_unless line None = Err (WordCount line)
-kind_unless line (Some kind) = Ok kind
+-- The kind, or the fault that the line has a wrong number of words.
+abbrev pub kind_or_fault : ℕ → Option Kind → Result Kind BindFault
+kind_or_fault line None = Err (WordCount line)
+kind_or_fault line (Some kind) = Ok kind
 
 -- The kind that the words behind a name stand for, or what is wrong with them.
-abbrev pub kind_of : ℕ → List ℕ → List (List ℕ) → Result Kind BindFault
-kind_of line kind maps =
-    if bytes_eq kind (codes "table") then kind_unless line (one_map maps)
-    else (if bytes_eq kind (codes "iso2022jp") then kind_unless line (two_maps Iso2022Jp maps)
-    else (if bytes_eq kind (codes "recode") then kind_unless line (two_maps Recode maps)
+abbrev pub kind_of_words : ℕ → List ℕ → List (List ℕ) → Result Kind BindFault
+kind_of_words line kind maps =
+    if bytes_eq kind (codes "table") then kind_or_fault line (one_map maps)
+    else (if bytes_eq kind (codes "iso2022jp") then kind_or_fault line (two_maps Iso2022Jp maps)
+    else (if bytes_eq kind (codes "recode") then kind_or_fault line (two_maps Recode maps)
     else Err (BadKind line)))
 
--- The binding of a name, where the name has at most 64 bytes and the words name charmaps.
-abbrev pub binding_unless : ℕ → List ℕ → Result Kind BindFault → Result Binding BindFault
-binding_unless line name (Err fault) = Err fault
-binding_unless line name (Ok kind) =
+-- The binding of a name by a kind, or the fault of the words: their own, or that the name has more than
+-- 64 bytes or a word names no charmap.
+abbrev pub binding_or_fault : ℕ → List ℕ → Result Kind BindFault → Result Binding BindFault
+binding_or_fault line name (Err fault) = Err fault
+binding_or_fault line name (Ok kind) =
     if nat_le (length name) 64 && names_charmaps kind
     then Ok (record { line = line; name = name; kind = kind })
     else Err (BadWord line)
@@ -64,7 +65,7 @@ binding_unless line name (Ok kind) =
 abbrev pub binding_of : ℕ → List (List ℕ) → Result Binding BindFault
 binding_of line [] = Err (WordCount line)
 binding_of line (name ∷ []) = Err (WordCount line)
-binding_of line (name ∷ kind ∷ maps) = binding_unless line name (kind_of line kind maps)
+binding_of line (name ∷ kind ∷ maps) = binding_or_fault line name (kind_of_words line kind maps)
 
 -- The name that a line binds is its first word.
 abbrev pub bound_name : Row → List ℕ
@@ -74,17 +75,17 @@ bound_name row = slice_index_or row.1 0 []
 abbrev pub is_bound : List Row → List ℕ → Bool
 is_bound earlier name = list_any (λ row. bytes_eq name (bound_name row)) earlier
 
--- The fault of a line alone, else that its name is bound already.
-abbrev pub fault_unless : ℕ → Bool → Result Binding BindFault → Option BindFault
-fault_unless line twice (Ok _) = if twice then Some (Twice line) else None
-fault_unless line twice (Err fault) = Some fault
+-- The fault of a line alone, else that its name is bound twice, if it is.
+abbrev pub fault_or_twice : ℕ → Bool → Result Binding BindFault → Option BindFault
+fault_or_twice line twice (Ok _) = if twice then Some (Twice line) else None
+fault_or_twice line twice (Err fault) = Some fault
 
 -- The fault of the line at a place among those that count: that it is one too many, else its own,
 -- else that an earlier line binds its name.
 abbrev pub fault_at : List Row → ℕ → Row → Option BindFault
 fault_at all place row =
     if nat_le most_lines place then Some (TooMany row.0)
-    else fault_unless row.0 (is_bound (take place all) (bound_name row)) (binding_of row.0 row.1)
+    else fault_or_twice row.0 (is_bound (take place all) (bound_name row)) (binding_of row.0 row.1)
 
 -- The fault of the first faulty line of a text.
 abbrev pub bind_fault : List ℕ → Option BindFault
@@ -100,11 +101,11 @@ ok_of (Err _) = None
 abbrev pub bind_lines : List ℕ → List Binding
 bind_lines text = filter_map (λ row. ok_of (binding_of row.0 row.1)) (rows text)
 
--- Bindings, unless there is a fault.
-abbrev pub bindings_unless : Option BindFault → List Binding → Result (List Binding) BindFault
-bindings_unless None bindings = Ok bindings
-bindings_unless (Some fault) bindings = Err fault
+-- The fault, if there is one, else the bindings.
+abbrev pub bindings_or_fault : Option BindFault → List Binding → Result (List Binding) BindFault
+bindings_or_fault None bindings = Ok bindings
+bindings_or_fault (Some fault) bindings = Err fault
 
 -- The bindings that a text stands for, or its first fault.
 abbrev pub bindings_of : List ℕ → Result (List Binding) BindFault
-bindings_of text = bindings_unless (bind_fault text) (bind_lines text)
+bindings_of text = bindings_or_fault (bind_fault text) (bind_lines text)

@@ -93,14 +93,14 @@ line_too_many conf =
     least_of (option_map (λ e. e.line) (slice_get conf.edges most_lines))
     (option_map (λ a. a.line) (slice_get conf.aliases most_lines))
 
--- A configuration, or the refusal of a line.
-abbrev pub conf_unless : Option ℕ → Conf → Result Conf ConfFault
-conf_unless None conf = Ok conf
-conf_unless (Some line) conf = Err (TooManyLines line)
+-- The fault that a line is one too many, if one is, else the configuration.
+abbrev pub conf_or_fault : Option ℕ → Conf → Result Conf ConfFault
+conf_or_fault None conf = Ok conf
+conf_or_fault (Some line) conf = Err (TooManyLines line)
 
--- A configuration, unless a line of it is one too many.
+-- A configuration, or the fault of the first line of it that is one too many.
 abbrev pub checked_conf : Conf → Result Conf ConfFault
-checked_conf conf = conf_unless (line_too_many conf) conf
+checked_conf conf = conf_or_fault (line_too_many conf) conf
 
 -- The configuration that a text stands for, unless a line is one too many.
 abbrev pub conf_of : List ℕ → Result Conf ConfFault

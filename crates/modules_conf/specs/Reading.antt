@@ -1,4 +1,5 @@
--- What a reader that stands between two lines of a gconv-modules text will answer.
+-- What a reader that stands between two lines of a gconv-modules text will answer. No public clause cites
+-- it.
 use Rattle.std.specs.Prelude.{◌≡◌, ℕ, ◌+◌, ◌≤◌, List, ◌∷◌, ◌++◌, length, Result, Err}
 use Rattle.std.specs.List.{enumerate_from}
 use Rattle.modules_conf.specs.Modules.{edges_among, aliases_among, passed_among, checked_conf}

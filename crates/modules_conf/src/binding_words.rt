@@ -1,7 +1,7 @@
 //! What the words of one line of a bindings text stand for.
 
 ghost use Rattle.std.specs.Prelude.{◌≡◌, ◌<◌, length, map, All, Result, if◌then◌else◌};
-ghost use Rattle.modules_conf.specs.Bindings.{binding_of, binding_unless, counts, kind_of, kind_unless, one_map, two_maps};
+ghost use Rattle.modules_conf.specs.Bindings.{binding_of, binding_or_fault, counts, kind_of_words, kind_or_fault, one_map, two_maps};
 ghost use Rattle.modules_conf.specs.BindingRows.{checked_kind};
 ghost use Rattle.modules_conf.specs.Charmaps.{names_charmaps};
 ghost use Rattle.modules_conf.specs.declared.kind.Kind.{Kind};
@@ -26,7 +26,7 @@ pub(crate) fn counts(words: &[&[u8]]) -> bool
 
 /// A table over one charmap: None where the word names none.
 fn read_table(line: u32, maps: &[&[u8]]) -> Result<Option<Kind>, BindFault>
-    ensures { result ≡ checked_kind (kind_unless line (one_map (map (λ word. word.now) maps.now))) }
+    ensures { result ≡ checked_kind (kind_or_fault line (one_map (map (λ word. word.now) maps.now))) }
 {
     match maps {
         [map] => Ok(match charmap_word(map) {
@@ -61,7 +61,7 @@ fn recode(first: &[u8], second: &[u8]) -> Option<Kind>
 
 /// ISO-2022-JP over two charmaps: None where a word names none.
 fn read_iso2022jp(line: u32, maps: &[&[u8]]) -> Result<Option<Kind>, BindFault>
-    ensures { result ≡ checked_kind (kind_unless line
+    ensures { result ≡ checked_kind (kind_or_fault line
         (two_maps (λ roman kanji. Kind.Iso2022Jp roman kanji) (map (λ word. word.now) maps.now))) }
 {
     match maps {
@@ -73,7 +73,7 @@ fn read_iso2022jp(line: u32, maps: &[&[u8]]) -> Result<Option<Kind>, BindFault>
 
 /// A recoding from one charmap to another: None where a word names none.
 fn read_recode(line: u32, maps: &[&[u8]]) -> Result<Option<Kind>, BindFault>
-    ensures { result ≡ checked_kind (kind_unless line
+    ensures { result ≡ checked_kind (kind_or_fault line
         (two_maps (λ first second. Kind.Recode first second) (map (λ word. word.now) maps.now))) }
 {
     match maps {
@@ -85,7 +85,7 @@ fn read_recode(line: u32, maps: &[&[u8]]) -> Result<Option<Kind>, BindFault>
 
 /// The kind that the words behind a name stand for: None where one of them names no charmap.
 fn read_kind(line: u32, kind: &[u8], maps: &[&[u8]]) -> Result<Option<Kind>, BindFault>
-    ensures { result ≡ checked_kind (kind_of line kind.now (map (λ word. word.now) maps.now)) }
+    ensures { result ≡ checked_kind (kind_of_words line kind.now (map (λ word. word.now) maps.now)) }
 {
     if kind == b"table".as_slice() {
         read_table(line, maps)
@@ -102,7 +102,7 @@ fn read_kind(line: u32, kind: &[u8], maps: &[&[u8]]) -> Result<Option<Kind>, Bin
 fn bind(line: u32, name: &[u8], kind: Result<Option<Kind>, BindFault>) -> Result<Binding, BindFault>
     requires { 0 < length name.now }
     ensures { (read : Result Kind BindFault) → kind ≡ checked_kind read
-        → result ≡ binding_unless line name.now read }
+        → result ≡ binding_or_fault line name.now read }
 {
     match kind {
         Err(fault) => Err(fault),

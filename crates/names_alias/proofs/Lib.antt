@@ -2,4 +2,4 @@ pub mod CallerNames
 pub mod AliasLemmas
 pub mod LookupLemmas
 pub mod Scans
-pub mod Rows
+pub mod Examples

@@ -39,7 +39,7 @@ resolved table name =
     if is_builtin_name name || is_fixed table.fixed name then name
     else unwrap_or (original_of table.pairs name) (unwrap_or (original_of builtin_aliases name) name)
 
--- A name that a caller may give is any but that of the set between all others.
+-- A name that a caller may give is any but INTERNAL.
 abbrev pub unless_reserved : List ℕ → Result (List ℕ) NameFault
 unless_reserved name = if bytes_eq name internal_name then Err Reserved else Ok name
 

@@ -3,7 +3,7 @@ use Rattle.std.specs.Prelude.{ℕ, Bool, List, [], ◌∷◌, codes}
 use Rattle.std.specs.List.{list_any}
 use Rattle.std.specs.Str.{bytes_eq}
 
--- The name of the set between all others.
+-- INTERNAL, the name of the set between all others.
 abbrev pub internal_name : List ℕ
 internal_name = codes "INTERNAL//"
 

@@ -5,7 +5,7 @@ use Rattle.names_alias.specs.Builtin.{internal_name}
 use Rattle.names_alias.specs.declared.fault.NameFault.{NameFault}
 use Rattle.names_alias.specs.declared.fault.NameFault.TheVariants.{Suffix, Empty, LongName, Reserved}
 
--- A good name isn't that of the set between all others.
+-- A good name isn't INTERNAL.
 abbrev pub IsGood : List ℕ → Type 0
 IsGood name = name ≢ internal_name
 

@@ -1,4 +1,4 @@
--- The front of a list of bytes.
+-- The front of a list of bytes. No public clause cites it.
 use Rattle.std.specs.Prelude.{◌≡◌, ℕ, List, length, take}
 use Rattle.names_alias.specs.declared.front.Front.{Front}
 

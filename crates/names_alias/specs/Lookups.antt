@@ -1,4 +1,4 @@
--- Tables in which each name is looked up alike.
+-- Tables in which each name is looked up alike. No public clause cites it.
 use Rattle.std.specs.Prelude.{◌≡◌, ℕ, List}
 use Rattle.names_alias.specs.Builtin.{Pair}
 use Rattle.names_alias.specs.Aliases.{AliasTable, is_fixed, original_of}

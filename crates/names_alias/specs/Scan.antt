@@ -1,4 +1,4 @@
--- A scan of a text from left to right.
+-- A scan of a text from left to right. No public clause cites it.
 use Rattle.std.specs.Prelude.{ℕ, zero, suc, List, [], ◌∷◌, ◌++◌}
 
 -- The bytes of a name behind so many slashes, of what stands before the first slash and behind it.

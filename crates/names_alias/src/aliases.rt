@@ -5,7 +5,7 @@ ghost use Rattle.text_lines.specs.Limits.{longest_text};
 ghost use Rattle.names_alias.specs.Builtin.{builtin_aliases};
 ghost use Rattle.names_alias.specs.Aliases.{original_of};
 
-use crate::builtin::is_builtin;
+use crate::builtin::{is_builtin, is_internal};
 use crate::fault::NameFault;
 use crate::form::normal;
 use crate::name::Name;
@@ -77,14 +77,13 @@ impl Aliases {
         }
     }
 
-    /// What the normal form of a text stands for. It refuses as `normal` does, and then the name of
-    /// the set between all others.
+    /// What the normal form of a text stands for. It refuses as `normal` does, and then INTERNAL.
     pub fn caller_name(&self, text: &[u8]) -> Result<Name, NameFault>
         requires { length text.now ≤ longest_text }
         ensures { result ≡ caller_name_of self.now text.now }
     {
         let name = self.resolve(&normal(text)?);
-        if name.as_bytes() == b"INTERNAL//".as_slice() {
+        if is_internal(&name) {
             return Err(NameFault::Reserved);
         }
         Ok(name)

@@ -10,6 +10,6 @@ pub enum NameFault {
     Empty,
     /// The normal form has `len` bytes, more than 64.
     LongName { len: u32 },
-    /// The name is that of the set between all others, which no caller may use.
+    /// The name is INTERNAL, which no caller may use.
     Reserved,
 }

@@ -13,7 +13,7 @@ mod name;
 mod word;
 
 pub use aliases::Aliases;
-pub use builtin::{builtin_set, internal, is_builtin};
+pub use builtin::{builtin_set, internal, is_builtin, is_internal};
 pub use fault::NameFault;
 pub use form::normal;
 pub use laws::caller_names_are_good;

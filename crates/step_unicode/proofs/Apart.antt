@@ -4,8 +4,9 @@ use Rattle.step_unicode.specs.declared.set.Uni.{Uni}
 use Rattle.step_unicode.specs.declared.set.Uni.TheVariants.{Ascii, Utf8, Utf16, Utf16Le, Utf16Be, Ucs4}
 use Rattle.step_unicode.specs.declared.set.State.{State}
 use Rattle.step_unicode.specs.declared.set.State.TheVariants.{Plain, Little, Big, Roman, Kanji}
-use Rattle.step_unicode.specs.Sets.{IsUnit, IsAsciiUnit, Stands}
-use Rattle.step_unicode.specs.Utf16.{little, big, IsUtf16Unit, IsMarkedUnit, IsFirstUnit, IsOrderedUnit, big_mark, little_mark}
+use Rattle.step_unicode.specs.Points.{IsStatelessUnit}
+use Rattle.step_unicode.specs.Sets.{IsUnit, IsAsciiUnit}
+use Rattle.step_unicode.specs.Utf16.{little, big, IsUtf16Unit, IsUtf16SetUnit, IsFirstUnit, big_mark, little_mark}
 use Rattle.step_unicode.specs.Utf8.{IsUtf8Unit}
 use Rattle.step_unicode.specs.Ucs4.{IsUcs4Unit}
 use Rattle.unit_relations.specs.Units.{AreApart}
@@ -16,7 +17,7 @@ use Rattle.step_unicode.proofs.Utf16Apart as utf16
 abbrev CodesApart : (List ℕ → ℕ → Type 0) → Type 0
 CodesApart IsCode = (u v x y : List ℕ) (p r : ℕ) → IsCode u p → IsCode v r → u ++ x ≡ v ++ y → (u ≡ v) × (p ≡ r)
 
-stand_apart : (IsCode : List ℕ → ℕ → Type 0) → CodesApart IsCode → AreApart (Stands IsCode)
+stand_apart : (IsCode : List ℕ → ℕ → Type 0) → CodesApart IsCode → AreApart (IsStatelessUnit IsCode)
 stand_apart IsCode codes s u v x y q r t w m n h =
     let one : (u ≡ v) × (m.0 ≡ n.0) = codes u v x y m.0 n.0 m.1 n.1 h in
     (one.0, m.2 ∙ ap Some one.1 ∙ sym n.2, m.3 ∙ sym n.3)
@@ -88,16 +89,10 @@ first u v x y q r t w (inr (inr (plain, plain', (p, unit, is), g))) (inr (inr (o
     let one : (u ≡ v) × (p ≡ p') = utf16.apart little u v x y p p' unit unit' h in
     (one.0, is ∙ ap Some one.1 ∙ sym is', g ∙ sym g')
 
-ordered : (number : ℕ → ℕ → ℕ) (s : State) (u v x y : List ℕ) (q r : Option ℕ) (t w : State) →
-    IsOrderedUnit number s u q t → IsOrderedUnit number s v r w → u ++ x ≡ v ++ y → (u ≡ v) × (q ≡ r) × (t ≡ w)
-ordered number s u v x y q r t w (p, unit, is, at) (p', unit', is', at') h =
-    let one : (u ≡ v) × (p ≡ p') = utf16.apart number u v x y p p' unit unit' h in
-    (one.0, is ∙ ap Some one.1 ∙ sym is', at ∙ sym at')
-
-marked_apart : AreApart IsMarkedUnit
+marked_apart : AreApart IsUtf16SetUnit
 marked_apart Plain u v x y q r t w m n h = first u v x y q r t w m n h
-marked_apart Little u v x y q r t w m n h = ordered little Little u v x y q r t w m n h
-marked_apart Big u v x y q r t w m n h = ordered big Big u v x y q r t w m n h
+marked_apart Little u v x y q r t w m n h = stand_apart (IsUtf16Unit little) (utf16.apart little) Little u v x y q r t w m n h
+marked_apart Big u v x y q r t w m n h = stand_apart (IsUtf16Unit big) (utf16.apart big) Big u v x y q r t w m n h
 marked_apart Roman u v x y q r t w m n h = absurd m
 marked_apart Kanji u v x y q r t w m n h = absurd m
 

@@ -1,10 +1,10 @@
 -- What is plain is a concatenation of units with one point each.
-use Rattle.std.proofs.Common.{◌≡◌, ℕ, zero, suc, ◌+◌, ◌*◌, ◌<◌, ◌≤◌, Bool, true, false, cond, List, [], ◌∷◌, ◌++◌, length, take, get_or, Option, Some, refl, sym, ap, ◌∙◌, subst, arith, w8, Fits}
-use Rattle.std.specs.Prelude.{nat_lt, IsTrue}
-use Rattle.std.specs.List.{AllByRecursion, prefix_len}
+use Rattle.std.proofs.Common.{◌≡◌, ℕ, suc, ◌+◌, ◌*◌, ◌<◌, Bool, true, false, cond, List, [], ◌∷◌, ◌++◌, take, get_or, Option, Some, refl, sym, ap, ◌∙◌, subst, arith, w8, Fits}
+use Rattle.std.specs.Prelude.{nat_lt}
+use Rattle.std.specs.List.{prefix_len}
 use Rattle.std.proofs.lemmas.Bool.Decides.{nat_tests}
 use Rattle.ascii_lanes.specs.Runs.{ascii_run, plain_units, numbers, number_of, is_plain_unit}
-use Rattle.unit_relations.specs.Units.{Piece, AreUnits, bytes_of}
+use Rattle.unit_relations.specs.Units.{Piece}
 use Rattle.step_unicode.specs.declared.set.State.{State}
 use Rattle.step_unicode.specs.declared.set.State.TheVariants.{Little, Big}
 use Rattle.step_unicode.specs.declared.set.Uni.TheVariants.{Ascii, Utf8, Utf16, Utf16Le, Utf16Be}

@@ -7,7 +7,7 @@ use Rattle.step_unicode.specs.declared.set.State.{State}
 use Rattle.step_unicode.specs.declared.set.State.TheVariants.{Plain, Little, Big, Roman, Kanji}
 use Rattle.step_unicode.specs.Sets.{IsUnit}
 use Rattle.step_unicode.specs.Utf8.{IsUtf8Unit}
-use Rattle.step_unicode.specs.Utf16.{IsUtf16Unit, IsMarkedUnit, little, big}
+use Rattle.step_unicode.specs.Utf16.{IsUtf16Unit, IsUtf16SetUnit, little, big}
 use Rattle.step_unicode.specs.Ucs4.{IsUcs4Unit}
 
 short_utf8 : (u : List ℕ) (p : ℕ) → IsUtf8Unit u p → length u ≤ 8
@@ -34,7 +34,7 @@ short_ucs4 (a ∷ b ∷ c ∷ []) p unit = omega arith
 short_ucs4 (a ∷ b ∷ c ∷ d ∷ []) p unit = omega arith
 short_ucs4 (a ∷ b ∷ c ∷ d ∷ e ∷ u) p unit = absurd unit
 
-short_marked : (s : State) (u : List ℕ) (q : Option ℕ) (t : State) → IsMarkedUnit s u q t → length u ≤ 8
+short_marked : (s : State) (u : List ℕ) (q : Option ℕ) (t : State) → IsUtf16SetUnit s u q t → length u ≤ 8
 short_marked Plain u q t (inl (e, f, g)) = rw e (omega arith)
 short_marked Plain u q t (inr (inl (e, f, g))) = rw e (omega arith)
 short_marked Plain u q t (inr (inr (e, f, (p, unit, is), g))) = short_utf16 little u p unit

@@ -1,13 +1,14 @@
 -- The sets that need no table: their units, what they can spell, and how.
-use Rattle.std.specs.Prelude.{◌≡◌, ℕ, ◌≤◌, Bool, true, false, IsTrue, List, [], ◌∷◌, Option, Some}
+use Rattle.std.specs.Prelude.{◌≡◌, ℕ, ◌≤◌, Bool, true, false, IsTrue, List, [], ◌∷◌, Option}
 use Rattle.std.specs.List.{flat_map}
 use Rattle.step_unicode.specs.declared.set.Uni.{Uni}
 use Rattle.step_unicode.specs.declared.set.Uni.TheVariants.{Ascii, Utf8, Utf16, Utf16Le, Utf16Be, Ucs4}
 use Rattle.step_unicode.specs.declared.set.State.{State}
 use Rattle.step_unicode.specs.declared.set.State.TheVariants.{Plain, Little, Big}
 use Rattle.step_unicode.specs.Points.{IsPoint}
+pub use Rattle.step_unicode.specs.Points.{IsStatelessUnit}
 use Rattle.step_unicode.specs.Utf8.{IsUtf8Unit, utf8}
-use Rattle.step_unicode.specs.Utf16.{little, big, little_bytes, big_bytes, IsUtf16Unit, utf16, IsMarkedUnit, marked, after_marked}
+use Rattle.step_unicode.specs.Utf16.{little, big, little_bytes, big_bytes, IsUtf16Unit, utf16, IsUtf16SetUnit, marked, after_marked}
 use Rattle.step_unicode.specs.Ucs4.{IsUcs4Unit, ucs4}
 use Rattle.unit_relations.specs.Spellings.{Spelling}
 
@@ -36,18 +37,14 @@ IsStateOf set s = IsTrue (is_state_of set s)
 abbrev pub IsAsciiUnit : List ℕ → ℕ → Type 0
 IsAsciiUnit u p = (p ≤ 0x7F) × (u ≡ p ∷ [])
 
--- a unit of a set without states gives a point, and the state stays
-abbrev pub Stands : (List ℕ → ℕ → Type 0) → State → List ℕ → Option ℕ → State → Type 0
-Stands IsCode s u q t = (p : ℕ) × IsCode u p × (q ≡ Some p) × (t ≡ s)
-
 -- in the state s the bytes u are a unit of the set, give q, and lead to t
 abbrev pub IsUnit : Uni → State → List ℕ → Option ℕ → State → Type 0
-IsUnit Ascii s u q t = Stands IsAsciiUnit s u q t
-IsUnit Utf8 s u q t = Stands IsUtf8Unit s u q t
-IsUnit Utf16 s u q t = IsMarkedUnit s u q t
-IsUnit Utf16Le s u q t = Stands (IsUtf16Unit little) s u q t
-IsUnit Utf16Be s u q t = Stands (IsUtf16Unit big) s u q t
-IsUnit Ucs4 s u q t = Stands IsUcs4Unit s u q t
+IsUnit Ascii s u q t = IsStatelessUnit IsAsciiUnit s u q t
+IsUnit Utf8 s u q t = IsStatelessUnit IsUtf8Unit s u q t
+IsUnit Utf16 s u q t = IsUtf16SetUnit s u q t
+IsUnit Utf16Le s u q t = IsStatelessUnit (IsUtf16Unit little) s u q t
+IsUnit Utf16Be s u q t = IsStatelessUnit (IsUtf16Unit big) s u q t
+IsUnit Ucs4 s u q t = IsStatelessUnit IsUcs4Unit s u q t
 
 -- the points that a set can spell
 abbrev pub IsSpellable : Uni → ℕ → Type 0

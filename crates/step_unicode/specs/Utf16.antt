@@ -1,7 +1,7 @@
 -- UTF-16 (RFC 2781): one number of 16 bits for a point up to FFFF, else a pair of surrogates.
 use Rattle.std.specs.Prelude.{◌≡◌, ◌≢◌, ℕ, ◌+◌, ◌-◌, ◌*◌, ◌/◌, ◌%◌, ◌⊎◌, List, [], ◌∷◌, ◌++◌, Option, Some, None, nat_lt, if◌then◌else◌}
 use Rattle.std.specs.List.{flat_map}
-use Rattle.step_unicode.specs.Points.{InRange, IsByte, IsPoint}
+use Rattle.step_unicode.specs.Points.{InRange, IsByte, IsPoint, IsStatelessUnit}
 use Rattle.step_unicode.specs.declared.set.State.{State}
 use Rattle.step_unicode.specs.declared.set.State.TheVariants.{Plain, Little, Big}
 
@@ -50,16 +50,12 @@ IsFirstUnit u q t =
     ⊎ ((u ≡ little_mark) × (q ≡ None) × (t ≡ Little))
     ⊎ ((u ≢ big_mark) × (u ≢ little_mark) × ((p : ℕ) × IsUtf16Unit little u p × (q ≡ Some p)) × (t ≡ Little))
 
--- a unit of UTF-16 where its order is known
-abbrev pub IsOrderedUnit : (ℕ → ℕ → ℕ) → State → List ℕ → Option ℕ → State → Type 0
-IsOrderedUnit number s u q t = (p : ℕ) × IsUtf16Unit number u p × (q ≡ Some p) × (t ≡ s)
-
--- a unit of UTF-16 in each state
-abbrev pub IsMarkedUnit : State → List ℕ → Option ℕ → State → Type 0
-IsMarkedUnit Plain u q t = IsFirstUnit u q t
-IsMarkedUnit Little u q t = IsOrderedUnit little Little u q t
-IsMarkedUnit Big u q t = IsOrderedUnit big Big u q t
-IsMarkedUnit _ u q t = ⊥
+-- a unit of the set UTF-16 in each of its states
+abbrev pub IsUtf16SetUnit : State → List ℕ → Option ℕ → State → Type 0
+IsUtf16SetUnit Plain u q t = IsFirstUnit u q t
+IsUtf16SetUnit Little u q t = IsStatelessUnit (IsUtf16Unit little) Little u q t
+IsUtf16SetUnit Big u q t = IsStatelessUnit (IsUtf16Unit big) Big u q t
+IsUtf16SetUnit _ u q t = ⊥
 
 -- how UTF-16 spells a list: with a mark before the first point, where no order was set
 abbrev pub marked : State → List ℕ → List ℕ

@@ -145,8 +145,7 @@ pub fn read(state: State, input: &[u8]) -> Unit
         State::Little => read_little(State::Little, input),
         State::Big => read_big(State::Big, input),
         State::Plain => read_first(input),
-        State::Roman => unreachable!(),
-        State::Kanji => unreachable!(),
+        _ => unreachable!(),
     }
 }
 
@@ -266,7 +265,6 @@ pub fn write(state: State, point: u32, output: &mut [u8], at: usize) -> Wrote
         State::Little => write_little(State::Little, point, output, at),
         State::Big => write_big(State::Big, point, output, at),
         State::Plain => write_first(point, output, at),
-        State::Roman => unreachable!(),
-        State::Kanji => unreachable!(),
+        _ => unreachable!(),
     }
 }

@@ -1,3 +1,3 @@
 pub mod LineLemmas
 pub mod WordLemmas
-pub mod Rows
+pub mod Examples

@@ -1,5 +1,5 @@
 use Rattle.std.proofs.Common.{◌∙◌, arith, sym, subst}
-use Rattle.charmap_reader.specs.Scan.{Fails}
+use Rattle.charmap_reader.specs.Faults.{Fails}
 use Rattle.charmap_reader.proofs.Scans.{length-lines, charmap_read}
 use Rattle.charmap_reader.proofs.charmap.read_charmap.Goals as goal
 

@@ -3,7 +3,7 @@ use Rattle.text_lines.specs.Lines.{lines}
 use Rattle.code_pairs.specs.Tables.{HasPoints}
 use Rattle.charmap_reader.specs.Rows.{row_of, rows_of}
 use Rattle.charmap_reader.specs.Mapping.{row_pairs, ok_pairs}
-use Rattle.charmap_reader.specs.Scan.{scan, onto}
+use Rattle.charmap_reader.specs.Scan.{scan, pairs_then}
 use Rattle.charmap_reader.proofs.Scans.{scan_step}
 use Rattle.charmap_reader.proofs.Lines.{HasPoints-row, HasPoints-append, few_behind}
 use Rattle.charmap_reader.proofs.mapping.read_mapping.Goals as goal
@@ -19,9 +19,9 @@ loop-line-preserved c =
     let next = c.read_mapping_line.new.pairs.items in
     let more : next ≡ ps ++ ok_pairs (row_pairs s r) = step.2 in
     record {
-      told = ap (λ xs. onto xs (scan s count (c.loop-line.number + 1) (length xs) later)) more
+      told = ap (λ xs. pairs_then xs (scan s count (c.loop-line.number + 1) (length xs) later)) more
           ∙ scan_step s count c.loop-line.number ps r later step.0 step.1
-          ∙ ap (λ ls. onto ps (scan s count c.loop-line.number (length ps) (map row_of ls)))
+          ∙ ap (λ ls. pairs_then ps (scan s count c.loop-line.number (length ps) (map row_of ls)))
           (sym c.in-Some.ensures.found) ∙ c.loop-line.invariant.told;
       room = omega (arith, ap length c.in-Some.ensures.found, c.loop-line.invariant.room);
       some = omega (arith, c.loop-line.invariant.some);
