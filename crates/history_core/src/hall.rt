@@ -360,8 +360,8 @@ impl<S: Story> Hall<S> {
             unreachable!()
         };
         drop(stored);
-        let found = shared.swap::<Release>(&mut pass.seat, 1, 0);
-        self.wake(found);
+        let word = shared.swap::<Release>(&mut pass.seat, 1, 0);
+        self.wake(word);
     }
 
     /// Puts the value back, and ends the turn.
@@ -377,13 +377,13 @@ impl<S: Story> Hall<S> {
         let shared = &self.table.shared;
         let found = shared.exchange(&mut pass.seat, 0, Held::Home(value));
         let Held::Out = found else { unreachable!() };
-        let found = shared.swap::<Release>(&mut pass.seat, 1, 0);
-        self.wake(found);
+        let word = shared.swap::<Release>(&mut pass.seat, 1, 0);
+        self.wake(word);
     }
 
-    /// Wakes one that sleeps, where the turn's word that was found says that one may.
-    fn wake(&self, found: u64) {
-        if found == 2 {
+    /// Wakes one that sleeps, where the turn's word, as it was found, says that one may.
+    fn wake(&self, word: u64) {
+        if word == 2 {
             self.table.shared.wake_one(1);
         }
     }

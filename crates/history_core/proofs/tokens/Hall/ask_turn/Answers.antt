@@ -23,3 +23,11 @@ swap-requires g c =
       claim_on g.S.Story.setting g.S.Story.legal g.S.Story.stands
           g.S.Story.pinned _ _ _ _ _ own.told (λ z. omega arith) own.bare,
     )
+
+pub returns-then-sleeps-clause-taken : goal.returns-then-sleeps-clause-taken
+returns-then-sleeps-clause-taken g c =
+    let own = c.requires.own in (c.swap.ensures.2 _ own.told own.bare).1
+
+pub returns-else-sleeps-clause-taken : goal.returns-else-sleeps-clause-taken
+returns-else-sleeps-clause-taken g c =
+    let own = c.requires.own in (c.compare_exchange.ensures.2 _ own.told own.bare).1
