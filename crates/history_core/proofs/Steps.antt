@@ -12,7 +12,7 @@ use native.Mathlib.Decide.{ℕ_discrete}
 use lib.ListN.{get_elem?}
 use lib.Seq.{set-get_or}
 use prog.Atomic.{either}
-use Rattle.atomic_table.specs.Table.{State, Me, step, Act, keeps, takes, gives, stepped}
+use Rattle.atomic_table.specs.Table.{State, Me, Step, step, Act, keeps, takes, gives, stepped}
 use Rattle.atomic_table.specs.Table.{carried_after, Valid, Allows, Splits, Joins, opening, Final}
 use Rattle.atomic_table.specs.Table.{Seen}
 use Rattle.atomic_table.proofs.Lists.{at_set, set_here, set_else, set_again, at_longer}
@@ -54,6 +54,13 @@ not_true false h = refl
 pos_of : (n : ℕ) → n ≢ 0 → 0 < n
 pos_of zero h = absurd (h refl)
 pos_of (suc n) h = omega arith
+
+-- what is there after x was put in at 0 alone is not 0
+put_at_0 : (n x : ℕ) → x ≢ 0 → either (eqb n 0) x n ≢ 0
+put_at_0 n x busy =
+    let P : Bool → Type 0 = λ b. either b x n ≢ 0 in
+    dite (ℕ_discrete n 0) (λ z. subst P (sym (eq-eqb n 0 z)) busy)
+    (λ ne. subst P (sym (ne_eqb n 0 ne)) ne)
 
 abbrev entry_of : {V E : Type 0} → E → Held V E → E
 entry_of d (Committing e) = e
@@ -121,15 +128,20 @@ module _ {V E T : Type 0} (setting : V → T) (Legal : T → History E → Type 
   abbrev Served : View E T → History E → View E T
   Served k log = record k { served = true; front = log; filled = [] }
 
-  takes_free : (me : ℕ) (k : View E T) (s : St) → k.setting ≡ Some t → k.number ≢ 0
+  -- the turn's word changes, and is not 0
+  not_free : (s : St) (x : ℕ) → Rule s → x ≢ 0 → get_or (set s.words 1 x) 1 0 ≢ 0
+  not_free s x r busy z =
+      let wide = r.wide in busy (sym (get_or-set_same s.words 1 x 0 (omega arith)) ∙ z)
+
+  takes_free : (me x : ℕ) (k : View E T) (s : St) → x ≢ 0 → k.setting ≡ Some t → k.number ≢ 0
       → get_elem? s.views me ≡ some k → (r : Rule s)
       → (h : AtHome setting Legal Stands pinned t r.log s)
       → Rule record {
-        words = set s.words 1 1;
+        words = set s.words 1 x;
         homes = set s.homes 0 none;
         views = set s.views me (Served k r.log);
       }
-  takes_free me k s told pass at r h =
+  takes_free me x k s busy told pass at r h =
       let f = r.live me k at (inr (Some-ne-None t k.setting told)) in
       let w = Served k r.log in
       record {
@@ -137,9 +149,9 @@ module _ {V E T : Type 0} (setting : V → T) (Legal : T → History E → Type 
         given = r.given;
         away = r.away;
         seat_of = r.seat_of;
-        wide = length-set s.words 1 1 ∙ r.wide;
+        wide = length-set s.words 1 x ∙ r.wide;
         turn = inr record {
-          word = let wide = r.wide in get_or-set_same s.words 1 1 0 (omega arith);
+          word = not_free s x r busy;
           home = ap (λ (hs : List (maybe.Option (Held V E))). set hs 0 none) h.home;
           seat = me;
           known = w;
@@ -148,14 +160,14 @@ module _ {V E T : Type 0} (setting : V → T) (Legal : T → History E → Type 
           alone = views_step s me w (λ i j. j.served ≡ true → i ≡ me) (λ _. refl)
               (λ i j other there serves. absurd (true≢false (sym serves ∙ h.idle i j there)));
         };
-        long = get_or-set_other s.words 1 0 1 0 (λ e. omega arith) ∙ r.long;
+        long = get_or-set_other s.words 1 0 x 0 (λ e. omega arith) ∙ r.long;
         legal = r.legal;
         numbers = r.numbers;
         some_given = r.some_given;
-        pins = λ n p x h. side s.words 1 1 p (omega arith) ∙ r.pins n p x h;
-        fills = views_step s me w (λ i j. Filled r.log (set s.words 1 1) j)
-            (λ _ p x e. absurd (Some-ne-None x None e refl))
-            (λ i j other there. idle_fills r.log (set s.words 1 1) j (h.idle i j there));
+        pins = λ n p y h. side s.words 1 x p (omega arith) ∙ r.pins n p y h;
+        fills = views_step s me w (λ i j. Filled r.log (set s.words 1 x) j)
+            (λ _ p y e. absurd (Some-ne-None y None e refl))
+            (λ i j other there. idle_fills r.log (set s.words 1 x) j (h.idle i j there));
         live = views_step s me w (λ i j. (j.served ≡ true) ⊎ (j.setting ≢ None)
             → Fits t r.log r.given r.away r.seat_of i j)
             (λ _. record {
@@ -170,21 +182,54 @@ module _ {V E T : Type 0} (setting : V → T) (Legal : T → History E → Type 
             (λ i j other there. r.live i j there);
       }
 
-  -- what `Allows` asks, at the number n in the word
-  abbrev Taking : ℕ → ℕ → View E T → St → ℕ → Type 0
-  Taking me slots k s n = (w : View E T) × (a : Act (Held V E)) × Valid s.homes [] a
-      × Rule (stepped s 1 (either (eqb n 0) 1 n) me [] w a)
-      × taken setting Legal Stands pinned (step slots 1 0 1 none) (k, []) n (w, carried_after [] a)
+  -- another number that is not 0 stands in the turn's word, and the turn is whose it was
+  stays_out : (me x : ℕ) (k : View E T) (s : St) → x ≢ 0 → get_elem? s.views me ≡ some k → Rule s
+      → IsOut setting Legal Stands pinned s
+      → Rule record { words = set s.words 1 x; homes = s.homes; views = set s.views me k }
+  stays_out me x k s busy at r h =
+      let P : List (View E T) → Type 0 =
+      λ vs. Rule record { words = set s.words 1 x; homes = s.homes; views = vs } in
+      let kept : P s.views = record {
+        log = r.log;
+        given = r.given;
+        away = r.away;
+        seat_of = r.seat_of;
+        wide = length-set s.words 1 x ∙ r.wide;
+        turn = inr record {
+          word = not_free s x r busy;
+          home = h.home;
+          seat = h.seat;
+          known = h.known;
+          there = h.there;
+          serves = h.serves;
+          alone = h.alone;
+        };
+        long = get_or-set_other s.words 1 0 x 0 (λ e. omega arith) ∙ r.long;
+        legal = r.legal;
+        numbers = r.numbers;
+        some_given = r.some_given;
+        pins = λ n p y e. side s.words 1 x p (omega arith) ∙ r.pins n p y e;
+        fills = λ i j there y p z e. let b = r.fills i j there y p z e in
+            (side s.words 1 x p (omega arith) ∙ b.0, b.1);
+        live = r.live;
+      } in
+      subst P (sym (set_again s.views me k at)) kept
 
-  takes_at_0 : (me slots : ℕ) (k : View E T) (s : St) → k.setting ≡ Some t → k.number ≢ 0
-      → get_elem? s.views me ≡ some k → (r : Rule s) → AtHome setting Legal Stands pinned t r.log s
-      → Taking me slots k s 0
-  takes_at_0 me slots k s told pass at r h =
-      let f = r.live me k at (inr (Some-ne-None t k.setting told)) in (
+  -- what `Allows` asks of a step that makes f n of the number n in the turn's word
+  abbrev Taking : Step (Held V E) → (ℕ → ℕ) → ℕ → View E T → St → ℕ → Type 0
+  Taking st f me k s n = (w : View E T) × (a : Act (Held V E)) × Valid s.homes [] a
+      × Rule (stepped s 1 (f n) me [] w a)
+      × taken setting Legal Stands pinned st (k, []) n (w, carried_after [] a)
+
+  takes_at_0 : (st : Step (Held V E)) (f : ℕ → ℕ) (me : ℕ) (k : View E T) (s : St) → f 0 ≢ 0 → k.setting ≡ Some t
+      → k.number ≢ 0 → get_elem? s.views me ≡ some k → (r : Rule s)
+      → AtHome setting Legal Stands pinned t r.log s → Taking st f me k s 0
+  takes_at_0 st f me k s busy told pass at r h =
+      let g = r.live me k at (inr (Some-ne-None t k.setting told)) in (
         Served k r.log,
         takes 0 (Home h.value),
         ap (λ (hs : List (maybe.Option (Held V E))). get_elem? hs 0) h.home,
-        takes_free me k s told pass at r h,
+        takes_free me (f 0) k s busy told pass at r h,
         λ u is _. (
           (λ _. subst (λ (x : T). Takes setting Legal Stands pinned x k
               (Served k r.log, (0, Home h.value) ∷ [])) (Some-injective t u (sym told ∙ is))
@@ -192,7 +237,7 @@ module _ {V E T : Type 0} (setting : V → T) (Legal : T → History E → Type 
                 value = h.value;
                 log = r.log;
                 now = refl;
-                grows = f.seen;
+                grows = g.seen;
                 stands = h.stands;
                 told = h.told;
                 legal = r.legal;
@@ -201,34 +246,31 @@ module _ {V E T : Type 0} (setting : V → T) (Legal : T → History E → Type 
         ),
       )
 
-  takes_at_1 : (me slots : ℕ) (k : View E T) (s : St) → get_elem? s.views me ≡ some k → Rule s
-      → get_or s.words 1 0 ≡ 1 → Taking me slots k s 1
-  takes_at_1 me slots k s at r one = (
+  takes_out : (st : Step (Held V E)) (f : ℕ → ℕ) (me : ℕ) (k : View E T) (s : St) → f (get_or s.words 1 0) ≢ 0
+      → get_elem? s.views me ≡ some k → Rule s → IsOut setting Legal Stands pinned s
+      → Taking st f me k s (get_or s.words 1 0)
+  takes_out st f me k s busy at r h = (
     k,
     keeps,
     tt,
-    subst (λ (n : ℕ). Rule record {
-      words = set s.words 1 n;
-      homes = s.homes;
-      views = set s.views me k;
-    }) one (unmoved s 1 me k at r),
-    λ u is _. ((λ z. absurd (omega arith)), (λ _. refl)),
+    stays_out me (f (get_or s.words 1 0)) k s busy at r h,
+    λ u is _. ((λ z. absurd (h.word z)), (λ _. refl)),
   )
 
-  pub takes_turn : (me slots : ℕ) (k : View E T) → k.setting ≡ Some t → k.number ≢ 0
-      → Allows Rule slots me (k, []) 1 (λ n. either (eqb n 0) 1 n)
-      (taken setting Legal Stands pinned (step slots 1 0 1 none) (k, []))
-  takes_turn me slots k told pass s r deep at low =
+  takes_turn : (st : Step (Held V E)) (f : ℕ → ℕ) (me slots : ℕ) (k : View E T) → ((n : ℕ) → f n ≢ 0)
+      → k.setting ≡ Some t → k.number ≢ 0
+      → Allows Rule slots me (k, []) 1 f (taken setting Legal Stands pinned st (k, []))
+  takes_turn st f me slots k busy told pass s r deep at low =
       ⊎_elim (λ (h : AtHome setting Legal Stands pinned t r.log s).
-      subst (Taking me slots k s) (sym h.word) (takes_at_0 me slots k s told pass at r h))
+      subst (Taking st f me k s) (sym h.word) (takes_at_0 st f me k s (busy 0) told pass at r h))
       (λ (h : IsOut setting Legal Stands pinned s).
-      subst (Taking me slots k s) (sym h.word) (takes_at_1 me slots k s at r h.word)) r.turn
+      takes_out st f me k s (busy (get_or s.words 1 0)) at r h) r.turn
 
   -- the turn ends, with the value x at home
   pub releases : (me slots : ℕ) (k : View E T) (x : V) → k.setting ≡ Some t → k.served ≡ true
       → setting x ≡ t → Stands x k.front
       → Allows Rule slots me (k, (0, Home x) ∷ []) 1 (λ _. 0)
-      (λ _. released (step slots 1 0 0 none) (k, (0, Home x) ∷ []) 0)
+      (released (step slots 1 0 0 none) (k, (0, Home x) ∷ []))
   releases me slots k x told serves of_t stands s r deep at low =
       let f = r.live me k at (inl serves) in
       let w : View E T = record k { served = false; filled = [] } in
@@ -318,7 +360,7 @@ module _ {V E T : Type 0} (setting : V → T) (Legal : T → History E → Type 
         seat_of = r.seat_of;
         wide = length-set s.words 0 n ∙ r.wide;
         turn = inr record {
-          word = get_or-set_other s.words 0 1 n 0 (λ z. omega arith) ∙ h.word;
+          word = λ z. h.word (sym (get_or-set_other s.words 0 1 n 0 (λ y. omega arith)) ∙ z);
           home = h.home;
           seat = me;
           known = w;
@@ -754,7 +796,7 @@ module _ {V E T : Type 0} (setting : V → T) (Legal : T → History E → Type 
         since = subst (λ (a : List ℕ). Since (Has a) k.front r.log) (sym b.away_is) b.rest;
       } in c)
       (λ (h : IsOut setting Legal Stands pinned s). let e : get_or s.words 1 0 ≡ 0 =
-      ap (λ (w : List ℕ). get_or w 1 0) z.2 ∙ free in let o = h.word in absurd (omega arith))
+      ap (λ (w : List ℕ). get_or w 1 0) z.2 ∙ free in absurd (h.word e))
       r.turn
 
   pub record Closes (k : View E T) (ws : List ℕ) (xs : List (Held V E)) : Type 0 where
@@ -826,22 +868,37 @@ module _ {V E T : Type 0} (setting : V → T) (Legal : T → History E → Type 
       )
 
   -- the same, of a seat's own pair
+  turn_on : (st : Step (Held V E)) (f : ℕ → ℕ) (me slots : ℕ) (m : Me (Held V E) (View E T))
+      → ((n : ℕ) → f n ≢ 0) → m.0.setting ≡ Some t → m.0.number ≢ 0 → m.1 ≡ []
+      → Allows Rule slots me m 1 f (taken setting Legal Stands pinned st m)
+  turn_on st f me slots m busy told pass bare =
+      let P : List (ℕ × Held V E) → Type 0 =
+      λ held. Allows Rule slots me (m.0, held) 1 f
+      (taken setting Legal Stands pinned st (m.0, held)) in
+      subst P (sym bare) (takes_turn st f me slots m.0 busy told pass)
+
+  -- 1 is put in where the word is 0
   pub take_on : (me slots : ℕ) (m : Me (Held V E) (View E T)) → m.0.setting ≡ Some t
       → m.0.number ≢ 0 → m.1 ≡ [] → Allows Rule slots me m 1 (λ n. either (eqb n 0) 1 n)
       (taken setting Legal Stands pinned (step slots 1 0 1 none) m)
   take_on me slots m told pass bare =
-      let P : List (ℕ × Held V E) → Type 0 =
-      λ held. Allows Rule slots me (m.0, held) 1 (λ n. either (eqb n 0) 1 n)
-      (taken setting Legal Stands pinned (step slots 1 0 1 none) (m.0, held)) in
-      subst P (sym bare) (takes_turn me slots m.0 told pass)
+      turn_on (step slots 1 0 1 none) (λ n. either (eqb n 0) 1 n) me slots m
+      (λ n. put_at_0 n 1 (λ z. omega arith)) told pass bare
+
+  -- 2 is put in, whatever the word is
+  pub claim_on : (me slots : ℕ) (m : Me (Held V E) (View E T)) → m.0.setting ≡ Some t
+      → m.0.number ≢ 0 → m.1 ≡ [] → Allows Rule slots me m 1 (λ _. 2)
+      (taken setting Legal Stands pinned (step slots 1 2 0 none) m)
+  claim_on me slots m told pass bare =
+      turn_on (step slots 1 2 0 none) (λ _. 2) me slots m (λ n z. omega arith) told pass bare
 
   pub release_on : (me slots : ℕ) (m : Me (Held V E) (View E T)) (x : V) → m.1 ≡ (0, Home x) ∷ []
       → m.0.setting ≡ Some t → m.0.served ≡ true → setting x ≡ t → Stands x m.0.front
-      → Allows Rule slots me m 1 (λ _. 0) (λ _. released (step slots 1 0 0 none) m 0)
+      → Allows Rule slots me m 1 (λ _. 0) (released (step slots 1 0 0 none) m)
   release_on me slots m x is told serves of_t stands =
       let P : List (ℕ × Held V E) → Type 0 =
       λ held. Allows Rule slots me (m.0, held) 1 (λ _. 0)
-      (λ _. released (step slots 1 0 0 none) (m.0, held) 0) in
+      (released (step slots 1 0 0 none) (m.0, held)) in
       subst P (sym is) (releases me slots m.0 x told serves of_t stands)
 
   pub commit_on : (me slots n : ℕ) (m : Me (Held V E) (View E T)) (e : E)
@@ -892,7 +949,8 @@ module _ {V E T : Type 0} (setting : V → T) (Legal : T → History E → Type 
         seat_of = r.seat_of;
         wide = length-set s.words (2 + p) x ∙ r.wide;
         turn = inr record {
-          word = get_or-set_other s.words (2 + p) 1 x 0 (λ z. omega arith) ∙ h.word;
+          word = λ z.
+              h.word (sym (get_or-set_other s.words (2 + p) 1 x 0 (λ y. omega arith)) ∙ z);
           home = h.home;
           seat = me;
           known = w;

@@ -1,7 +1,7 @@
 -- The rule of a hall's table, and what each kind of step tells.
 --
--- Word 0 is the length of the history, word 1 is 1 while a seat has the turn and else 0, and the
--- word 2 + p is the side word of the place p. The one slot is for the value.
+-- Word 0 is the length of the history, word 1 is 0 exactly while no seat has the turn, and the word
+-- 2 + p is the side word of the place p. The one slot is for the value.
 use Rattle.std.specs.Prelude.{◌≡◌, ◌≢◌, ◌⊎◌, ℕ, ◌+◌, ◌-◌, ◌<◌, ◌==◌, if◌then◌else◌, true, false}
 use Rattle.std.specs.Prelude.{List, [], ◌∷◌, ◌++◌, length, slice_index, Option, Some, None}
 use mathlib.Core.Option.{none, some}
@@ -110,7 +110,7 @@ module _ {V E T : Type 0} (setting : V → T) (Legal : T → History E → Type 
 
   -- One seat alone has the turn, and the slot.
   pub record IsOut (s : State (Held V E) (View E T)) : Type 0 where
-    pub word : slice_index s.words 1 ≡ 1
+    pub word : slice_index s.words 1 ≢ 0
     pub home : s.homes ≡ none ∷ []
     pub seat : ℕ
     pub known : View E T

@@ -5,6 +5,7 @@ ghost use Rattle.history_core.specs.History.{History, EachNumber, Since, Grows, 
 ghost use Rattle.history_core.specs.History.{AreEnded, mine_of, longer, without};
 ghost use Rattle.history_core.specs.Seats.{filled_of, front_of, number_of};
 ghost use Rattle.history_core.specs.Seats.{IsIdle, IsServed, Seized};
+ghost use Rattle.history_core.specs.Rule.{Takes};
 ghost use Rattle.history_core.specs.Tokens.{setting_of, words_of, id_of, number, front, front_with};
 ghost use Rattle.history_core.specs.Tokens.{pinned_of, lead_front, next_number, away_of, ended_of};
 ghost use Rattle.history_core.specs.Tokens.{IsPassOf, IsLeadOf, IsCovered, IsSame, Took};
@@ -15,9 +16,12 @@ use crate::story::Story;
 use crate::tokens::{Hall, Lead, NoHall, Pass, Turn};
 use atomic_table::{Refused, Table};
 use std::alloc::{AllocError, AllocFailed, Global};
+use std::hint::spin_loop;
 use std::snapshot::Snapshot;
 use std::sync::Wait;
-use std::thread::yield_now;
+
+/// So often a caller looks at a turn that is taken before it sleeps.
+const LOOKS: u32 = 100;
 
 impl<S: Story> Lead<S> {
     /// How many passes were split and not joined.
@@ -260,7 +264,18 @@ impl<S: Story> Hall<S> {
         value
     }
 
-    /// Tries until the turn is free; the number is the length of the history.
+    /// Looks at the turn for a while, as long as it is taken and nobody sleeps until it ends.
+    fn look_on(&self) {
+        for _ in 0..LOOKS {
+            if self.table.shared.peek(1) != 1 {
+                return;
+            }
+            spin_loop();
+        }
+    }
+
+    /// Waits until the turn is free; the number is the length of the history. Where it isn't soon
+    /// free, the caller says so in the turn's word and sleeps until a turn ends.
     fn wait_turn<R: Wait>(&self, rt: &R, seat: &mut HallSeat<S>) -> (S::Value, u64)
         requires own { IsIdle (id_of self.now) (setting_of S.setting self.now) seat.old }
         requires pass { 0 < number_of seat.old }
@@ -268,17 +283,40 @@ impl<S: Story> Hall<S> {
             (setting_of S.setting self.now) seat.old seat.new result.0 }
         ensures seen { result.1 ≡ length (front_of seat.new) }
     {
+        self.look_on();
+        if let Some(got) = self.try_turn(seat, false) {
+            return got;
+        }
         for _ in rt.forever() {
-            if let Some(got) = self.try_turn(seat) {
+            if let Some(got) = self.try_turn(seat, true) {
                 return got;
             }
-            yield_now();
+            self.table.shared.park(rt, 1, 2);
+            self.look_on();
         }
         unreachable!()
     }
 
+    /// Takes the turn where it is free, and tells what its word was. A caller that sleeps else puts
+    /// 2 in, so that the end of the turn wakes one.
+    fn ask_turn(&self, seat: &mut HallSeat<S>, sleeps: bool) -> u64
+        requires own { IsIdle (id_of self.now) (setting_of S.setting self.now) seat.old }
+        requires pass { 0 < number_of seat.old }
+        ensures table { seat.new.table_id ≡ seat.old.table_id }
+        ensures free { result ≡ 0 → Takes S.setting S.legal S.stands S.pinned
+            (setting_of S.setting self.now) seat.old.me.0 seat.new.me }
+        ensures taken { result ≢ 0 → seat.new.me ≡ seat.old.me }
+    {
+        let shared = &self.table.shared;
+        if sleeps {
+            shared.swap::<Take<S>>(seat, 1, 2)
+        } else {
+            shared.compare_exchange::<Take<S>>(seat, 1, 0, 1)
+        }
+    }
+
     /// Takes the turn and the value where the turn is free.
-    fn try_turn(&self, seat: &mut HallSeat<S>) -> Option<(S::Value, u64)>
+    fn try_turn(&self, seat: &mut HallSeat<S>, sleeps: bool) -> Option<(S::Value, u64)>
         requires own { IsIdle (id_of self.now) (setting_of S.setting self.now) seat.old }
         requires pass { 0 < number_of seat.old }
         ensures same { IfNone result
@@ -287,10 +325,10 @@ impl<S: Story> Hall<S> {
             (setting_of S.setting self.now) seat.old seat.new got.0
             × (got.1 ≡ length (front_of seat.new))) }
     {
-        let shared = &self.table.shared;
-        if shared.compare_exchange::<Take<S>>(seat, 1, 0, 1) != 0 {
+        if self.ask_turn(seat, sleeps) != 0 {
             return None;
         }
+        let shared = &self.table.shared;
         let held = shared.exchange(seat, 0, Held::Out);
         let seen = shared.load::<Look>(seat, 0);
         match held {
@@ -322,7 +360,8 @@ impl<S: Story> Hall<S> {
             unreachable!()
         };
         drop(stored);
-        shared.store::<Release>(&mut pass.seat, 1, 0);
+        let word = shared.swap::<Release>(&mut pass.seat, 1, 0);
+        self.wake(word);
     }
 
     /// Puts the value back, and ends the turn.
@@ -338,7 +377,15 @@ impl<S: Story> Hall<S> {
         let shared = &self.table.shared;
         let found = shared.exchange(&mut pass.seat, 0, Held::Home(value));
         let Held::Out = found else { unreachable!() };
-        shared.store::<Release>(&mut pass.seat, 1, 0);
+        let word = shared.swap::<Release>(&mut pass.seat, 1, 0);
+        self.wake(word);
+    }
+
+    /// Wakes one that sleeps, where the turn's word, as it was found, says that one may.
+    fn wake(&self, word: u64) {
+        if word == 2 {
+            self.table.shared.wake_one(1);
+        }
     }
 
     /// Stores a side word in a turn.

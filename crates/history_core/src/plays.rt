@@ -7,7 +7,7 @@ use crate::story::Story;
 use atomic_table::{Join, Play, Split};
 use std::marker::PhantomData;
 
-/// The turn's word goes from 0 to 1.
+/// The turn's word goes from 0 to 1 or 2; or it was not 0, and stays so.
 pub struct Take<S> {
     story: PhantomData<S>,
 }
@@ -30,7 +30,7 @@ impl<V, E, T> Play<Held<V, E>, View<E, T>> for Commit {
     ghost then = { committed };
 }
 
-/// The turn's word goes back to 0.
+/// The turn's word goes to 0.
 pub struct Release;
 
 impl<V, E, T> Play<Held<V, E>, View<E, T>> for Release {

@@ -4,8 +4,8 @@ use Rattle.atomic_table.specs.Table.{rest}
 use Rattle.history_core.proofs.Steps.{release_on}
 use Rattle.history_core.proofs.tokens.Hall.put_back.Goals as goal
 
-pub store-requires : goal.store-requires
-store-requires g c =
+pub swap-word-requires : goal.swap-word-requires
+swap-word-requires g c =
     let own = c.requires.served in
     let now = c.exchange-found.ensures.3 in
     let k = ap (λ m. m.0) now in

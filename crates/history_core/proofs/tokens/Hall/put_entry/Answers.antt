@@ -46,8 +46,8 @@ exchange-found-requires-2 g c =
       ),
     )
 
-pub store-requires-2 : goal.store-requires-2
-store-requires-2 g c =
+pub swap-word-requires : goal.swap-word-requires
+swap-word-requires g c =
     let wide = c.args.self.now.wide in
     let own = c.requires.served in
     let p = c.args.pass.now in
