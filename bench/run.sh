@@ -4,8 +4,8 @@
 #
 #   bench/run.sh [PROGRAM [PART]..]
 #
-# PROGRAM is crates/iconv_batch/out/iconv_batch where none is given. The parts are texts, jobs, made, memory and
-# start; all of them where none is named. RUNS=N measures each row N times (5 where it isn't set), turn and turn
+# PROGRAM is crates/iconv_batch/out/iconv_batch where none is given. The parts are texts, jobs, made, memory, start
+# and workers; all of them where none is named. RUNS=N measures each row N times (5 where it isn't set), turn and turn
 # about; a figure is the least of them, since other work on the machine only adds to it. Sets that stand in charmaps
 # need the package locales. The files stand in a folder of TMPDIR: where that is in memory, as /dev/shm, no disk adds to
 # the figures. A peer that is missing is skipped with a word. The status is 1 exactly where some bytes

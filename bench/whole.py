@@ -8,12 +8,16 @@
   bytes of such text in memory.
 - memory: the most that a run had at once, less its inputs, its largest output and the same run on empty files.
 - start: one small file by a configuration of two lines, and by that of all the system's sets, beside the short form.
+- workers: times by the clock, with 0, 1, 2 and 4 workers, beside iconv(1) by xargs and the driver in as many processes
+  and threads: the 64 jobs of --generate, the same from files, as many bytes between two of the system's sets, and four
+  files of 16 MiB. Then 4,096 files of some bytes with 64 workers, which are to end, with the report of none.
 """
 import filecmp
 import os
 import shutil
 import subprocess
 import sys
+import time
 
 from peers import library, passage
 
@@ -74,15 +78,16 @@ class Measured:
         print(f"FAILED: {text}")
         self.failed = True
 
-    def long_form(self, jobs, config=None):
-        """The words that convert a list of jobs, by some configuration or by an empty one."""
+    def long_form(self, jobs, config=None, workers=0):
+        """The words that convert a list of jobs, by some configuration or by an empty one. Where processor time or
+        memory is measured, the asking thread does all jobs."""
         if config is None:
             config = self.path("none")
             os.makedirs(f"{config}/charmaps", exist_ok=True)
             for name in ("gconv-modules", "bindings"):
                 open(f"{config}/{name}", "wb").close()
         return [self.program, "--modules", f"{config}/gconv-modules", "--bindings", f"{config}/bindings",
-                "--charmaps", f"{config}/charmaps", "--jobs", jobs]
+                "--charmaps", f"{config}/charmaps", "--jobs", jobs, "--workers", str(workers)]
 
     def system(self):
         """The configuration of the system's sets; None where it can't be made."""
@@ -97,20 +102,30 @@ class Measured:
         return self.write(name, "".join(" ".join(line) + "\n" for line in lines).encode())
 
 
-def used(words, env=None):
-    """The processor time of a run in ms; None where it doesn't end well."""
+def ran(words, env=None, status_wanted=0):
+    """The times of a run in ms, by the clock and of the processors; None where it ends with another status."""
+    begun = time.perf_counter()
     child = subprocess.Popen(words, stdout=subprocess.DEVNULL, stderr=subprocess.DEVNULL, env=env)
     _, status, usage = os.wait4(child.pid, 0)
+    clock = time.perf_counter() - begun
     child.returncode = os.WEXITSTATUS(status) if os.WIFEXITED(status) else -os.WTERMSIG(status)
-    return (usage.ru_utime + usage.ru_stime) * 1000 if child.returncode == 0 else None
+    if child.returncode != status_wanted:
+        return None
+    return clock * 1000, (usage.ru_utime + usage.ru_stime) * 1000
 
 
-def least(measured, commands):
+def used(words, env=None):
+    """The processor time of a run in ms; None where it doesn't end well."""
+    times = ran(words, env)
+    return times and times[1]
+
+
+def least(measured, commands, of=used):
     """The least time of each command, all of them in turn; one is missing where a run of it fails."""
     took = {name: [] for name in commands}
     for _ in range(measured.runs):
         for name, words in commands.items():
-            took[name].append(used(words, LARGE if name == "large" else None))
+            took[name].append(of(words, LARGE if "large" in str(name) else None))
     for name in [it for it in took if None in took[it]]:
         measured.fail(" ".join(commands[name]))
         del took[name]
@@ -262,7 +277,7 @@ def made(measured):
         letters.append(both[(x >> 18) % len(both)] if (x >> 16) % 4 else chr(32 + (x >> 18) % 90))
     text = ("".join(letters).encode("euc-jp") * 5)[:length].decode("euc-jp", "ignore").encode("euc-jp")
     theirs = [library("EUC-JP", "GBK", text) for _ in range(measured.runs)]
-    took = least(measured, {"made": [measured.program, "--generate", "1"], **commands})
+    took = least(measured, {"made": [measured.program, "--generate", "1", "--workers", "0"], **commands})
     theirs += [library("EUC-JP", "GBK", text) for _ in range(measured.runs)]
     if None in theirs or len(took) != 4:
         measured.fail("--generate 1, or iconv(3) from EUC-JP to GBK")
@@ -348,9 +363,132 @@ def start(measured):
         print(f"{name:<24}{mean:>7.2f}   {mean - base:>+6.2f}   least {min(times):.2f}")
 
 
+# How many workers, threads or processes.
+NUMBERS = (0, 1, 2, 4)
+
+
+def list_for(measured, who, files, source, target):
+    """A list of jobs over some files, each with an output of its own for one who converts them."""
+    return measured.jobs(f"list.{who}", [(source, target, path, f"{path}.{who}") for path in files])
+
+
+def peers_of(measured, files, source, target):
+    """What the peers are told, by name and number: the driver, and an iconv(1) for each file, so many at once."""
+    jobs = list_for(measured, "driver", files, source, target)
+    commands = {("driver", number): [measured.driver, "-j", str(number), jobs] for number in NUMBERS[1:]}
+    if shutil.which("xargs"):
+        lines = "".join(f"-f {source} -t {target} -o {path}.iconv {path}\n" for path in files)
+        told = measured.write("list.iconv", lines.encode())
+        for number in NUMBERS[1:]:
+            commands["iconv(1)", number] = ["xargs", "-P", str(number), "-L", "1", "-a", told, "iconv"]
+    return commands
+
+
+def rows(measured, title, ours, peers):
+    """Prints the rows of some jobs: ours by the words for each number of workers, also with large pages, and peers."""
+    commands = {(who, number): words for who in ("ours", "ours, large pages") for number, words in ours.items()}
+    took = least(measured, {**commands, **peers}, ran)
+    if len(took) != len(commands) + len(peers):
+        return
+    for who in dict.fromkeys(who for who, _ in took):
+        times = {number: took[who, number] for number in NUMBERS if (who, number) in took}
+        alone = times[min(times)]
+        cells = [title, who, *(f"{times[it][0]:.1f}" if it in times else "-" for it in NUMBERS),
+                 f"{alone[1]:.1f}", f"{times[4][1]:.1f}", f"{alone[0] / times[4][0]:.2f}",
+                 f"{took['ours', 4][0] / times[4][0]:.2f}"]
+        print(f"| {' | '.join(cells)} |", flush=True)
+
+
+def told_by(measured, commands, files, suffix):
+    """What each run says, with its status and the outputs that it leaves; a run that doesn't end has none."""
+    left = {}
+    for name, words in commands.items():
+        try:
+            done = subprocess.run(words, capture_output=True, timeout=120, check=False)
+        except subprocess.TimeoutExpired:
+            measured.fail(f"{' '.join(words)} didn't end in 120 s")
+            continue
+        outputs = []
+        for path in files:
+            with open(path + suffix, "rb") as output:
+                outputs.append(output.read())
+        left[name] = (done.returncode, done.stdout, outputs)
+    return left
+
+
+def agree(measured, title, ours, peers, files, suffix=".ours"):
+    """Whether all runs with workers say and leave what the one with none does, and the peers leave that too."""
+    left = told_by(measured, ours, files, suffix)
+    good = len(left) == len(ours) and all(it == left[0] for it in left.values())
+    for who in ("driver", "iconv"):
+        commands = {it: words for it, words in peers.items() if it[0].startswith(who)}
+        theirs = told_by(measured, commands, files, f".{who}")
+        good = good and all(it[2] == left[0][2] for it in theirs.values())
+    if not good:
+        measured.fail(f"{title}: a report or bytes differ")
+    return good
+
+
+def of_sets(measured, title, contents, source, target, config):
+    """The rows of files between two sets that the peers have too."""
+    files = [measured.write(f"in.{number}", content) for number, content in enumerate(contents)]
+    jobs = list_for(measured, "ours", files, source, target)
+    ours = {number: measured.long_form(jobs, config, number) for number in NUMBERS}
+    peers = peers_of(measured, files, source, target)
+    if agree(measured, title, ours, peers, files):
+        rows(measured, title, ours, peers)
+
+
+def of_made(measured):
+    """The rows of the made jobs, in memory and from files; answers the bytes of all."""
+    ours = {number: [measured.program, "--generate", "1", "--workers", str(number)] for number in NUMBERS}
+    if agree(measured, "made", ours, {}, []):
+        rows(measured, "64 made jobs, their making among it", ours, {})
+    commands, length = made_files(measured, 1)
+    files = [measured.path(f"gen/in-{j}") for j in range(1, 65)]
+    ours = {number: measured.long_form(commands["copied"][-1], measured.path("gen"), number) for number in NUMBERS}
+    if agree(measured, "made, from files", ours, {}, files, ".out"):
+        rows(measured, "the same from files", ours, {})
+    return length
+
+
+def of_tiny(measured):
+    """4,096 files of some bytes, with up to 64 workers."""
+    made = "日本語\n".encode()
+    files = [measured.write(f"in.{number}", made[:number % 11]) for number in range(4096)]
+    jobs = list_for(measured, "ours", files, "UTF-8", "UTF-16LE")
+    ours = {number: measured.long_form(jobs, None, number) for number in (0, 1, 4, 64)}
+    good = agree(measured, "4,096 tiny files", ours, {}, files)
+    print("\n| 4,096 files of 0 to 10 bytes | By the clock, ms | Processors, ms |\n|---|---|---|")
+    took = least(measured, ours, lambda words, env: ran(words, env, status_wanted=1))
+    for number, (clock, spent) in took.items():
+        print(f"| {number} workers | {clock:.1f} | {spent:.1f} |")
+    print("All ended, with the report and the outputs of none." if good else "Not as with none.")
+
+
+def workers(measured):
+    processors = len(os.sched_getaffinity(0))
+    print(f"\n## workers: ms by the clock, the least of {measured.runs}, on {processors} processors; the gain is that\n"
+          "to 4 workers, threads or processes from 0 workers, else from 1")
+    if not shutil.which("xargs"):
+        print("skipped: xargs is missing (apt-get install findutils)")
+    print("| Jobs | Who | 0 | 1 | 2 | 4 | Processors, alone | Processors, 4 | Gain | Ours with 4, to it |")
+    print("|---|---|---|---|---|---|---|---|---|---|")
+    length, config = of_made(measured), measured.system()
+    japanese = {it: text_of(*it, "japanese") for it in (("EUC-JP", "GBK"), ("UTF-8", "UTF-16LE"), ("EUC-JP", "UTF-8"))}
+    for (source, target), text in japanese.items():
+        if source == "EUC-JP" and not config:
+            continue
+        many, size = (64, length // 64) if target == "GBK" else (4, 16 * MIB)
+        each = f"{size // MIB} MiB" if size >= MIB else f"{size // 1024} KiB"
+        of_sets(measured, f"{many} files of {each}, {source} to {target}", [sized(text, source, size)] * many,
+                source, target, config if source == "EUC-JP" else None)
+    of_tiny(measured)
+
+
 def main():
     measured = Measured(sys.argv[1], sys.argv[2], int(sys.argv[3]))
-    parts = {it.__name__: it for it in (texts, jobs, made, memory, start)}
+    parts = {it.__name__: it for it in (texts, jobs, made, memory, start, workers)}
     asked = sys.argv[4:] or list(parts)
     for name in asked:
         if name not in parts:
