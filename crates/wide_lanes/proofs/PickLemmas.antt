@@ -5,7 +5,7 @@ use Rattle.std.proofs.lemmas.Bool.{cases_lt}
 use Rattle.std.proofs.lemmas.Nat.{ones-le}
 use Rattle.std.proofs.lemmas.Bool.Decides.{nat_tests}
 use Rattle.std.proofs.lemmas.List.{append-nil, drop-drop, take-take, take_at, drop_at, take-append-drop, length-take-le, length-drop}
-use Rattle.std.proofs.lemmas.Simd.{swz_l}
+use Rattle.std.proofs.lemmas.Simd.{swz_l, SwzOk}
 use lib.Lanes.{pick_l}
 use lib.Count.{ones}
 use Rattle.wide_lanes.specs.Wide.{low_first, high_first}
@@ -59,6 +59,58 @@ packs none m lt =
     let there : 16 * (m / 16) + m % 16 ≡ m = omega arith in
     spelled (λ xs. Packs none xs m) 16 (λ f. subst (Packs none (listed f 16)) there
     (each (λ l. Packs none (listed f 16) (16 * (m / 16) + l)) 16 (m % 16) (each (λ h. Each (λ l. Packs none (listed f 16) (16 * h + l)) 16) 16 (m / 16) (rows_pack none f) (omega (arith, lt))) (omega arith)))
+
+-- each place in a row is one of sixteen, or asks for 0
+rows_ok : (none : List ℕ) → Each (λ h. Each (λ l. SwzOk w8 16 16 0 (get_or ROWS (16 * h + l) none)) 16) 16
+rows_ok none =
+    let u : Each (λ _. ⊤) 16 = (tt, (tt, (tt, (tt, (tt, (tt, (tt, (tt, (tt, (tt, (tt, (tt, (tt, (tt, (tt, (tt, tt)))))))))))))))) in
+    ((u, (u, (u, (u, (u, (u, (u, (u, (u, (u, (u, (u, (u, (u, (u, (u, tt)))))))))))))))),
+    ((u, (u, (u, (u, (u, (u, (u, (u, (u, (u, (u, (u, (u, (u, (u, (u, tt)))))))))))))))),
+    ((u, (u, (u, (u, (u, (u, (u, (u, (u, (u, (u, (u, (u, (u, (u, (u, tt)))))))))))))))),
+    ((u, (u, (u, (u, (u, (u, (u, (u, (u, (u, (u, (u, (u, (u, (u, (u, tt)))))))))))))))),
+    ((u, (u, (u, (u, (u, (u, (u, (u, (u, (u, (u, (u, (u, (u, (u, (u, tt)))))))))))))))),
+    ((u, (u, (u, (u, (u, (u, (u, (u, (u, (u, (u, (u, (u, (u, (u, (u, tt)))))))))))))))),
+    ((u, (u, (u, (u, (u, (u, (u, (u, (u, (u, (u, (u, (u, (u, (u, (u, tt)))))))))))))))),
+    ((u, (u, (u, (u, (u, (u, (u, (u, (u, (u, (u, (u, (u, (u, (u, (u, tt)))))))))))))))),
+    ((u, (u, (u, (u, (u, (u, (u, (u, (u, (u, (u, (u, (u, (u, (u, (u, tt)))))))))))))))),
+    ((u, (u, (u, (u, (u, (u, (u, (u, (u, (u, (u, (u, (u, (u, (u, (u, tt)))))))))))))))),
+    ((u, (u, (u, (u, (u, (u, (u, (u, (u, (u, (u, (u, (u, (u, (u, (u, tt)))))))))))))))),
+    ((u, (u, (u, (u, (u, (u, (u, (u, (u, (u, (u, (u, (u, (u, (u, (u, tt)))))))))))))))),
+    ((u, (u, (u, (u, (u, (u, (u, (u, (u, (u, (u, (u, (u, (u, (u, (u, tt)))))))))))))))),
+    ((u, (u, (u, (u, (u, (u, (u, (u, (u, (u, (u, (u, (u, (u, (u, (u, tt)))))))))))))))),
+    ((u, (u, (u, (u, (u, (u, (u, (u, (u, (u, (u, (u, (u, (u, (u, (u, tt)))))))))))))))),
+    ((u, (u, (u, (u, (u, (u, (u, (u, (u, (u, (u, (u, (u, (u, (u, (u, tt)))))))))))))))), tt))))))))))))))))
+
+rows_long : (none : List ℕ) → Each (λ h. Each (λ l. length (get_or ROWS (16 * h + l) none) ≡ 16) 16) 16
+rows_long none =
+    ((refl, (refl, (refl, (refl, (refl, (refl, (refl, (refl, (refl, (refl, (refl, (refl, (refl, (refl, (refl, (refl, tt)))))))))))))))),
+    ((refl, (refl, (refl, (refl, (refl, (refl, (refl, (refl, (refl, (refl, (refl, (refl, (refl, (refl, (refl, (refl, tt)))))))))))))))),
+    ((refl, (refl, (refl, (refl, (refl, (refl, (refl, (refl, (refl, (refl, (refl, (refl, (refl, (refl, (refl, (refl, tt)))))))))))))))),
+    ((refl, (refl, (refl, (refl, (refl, (refl, (refl, (refl, (refl, (refl, (refl, (refl, (refl, (refl, (refl, (refl, tt)))))))))))))))),
+    ((refl, (refl, (refl, (refl, (refl, (refl, (refl, (refl, (refl, (refl, (refl, (refl, (refl, (refl, (refl, (refl, tt)))))))))))))))),
+    ((refl, (refl, (refl, (refl, (refl, (refl, (refl, (refl, (refl, (refl, (refl, (refl, (refl, (refl, (refl, (refl, tt)))))))))))))))),
+    ((refl, (refl, (refl, (refl, (refl, (refl, (refl, (refl, (refl, (refl, (refl, (refl, (refl, (refl, (refl, (refl, tt)))))))))))))))),
+    ((refl, (refl, (refl, (refl, (refl, (refl, (refl, (refl, (refl, (refl, (refl, (refl, (refl, (refl, (refl, (refl, tt)))))))))))))))),
+    ((refl, (refl, (refl, (refl, (refl, (refl, (refl, (refl, (refl, (refl, (refl, (refl, (refl, (refl, (refl, (refl, tt)))))))))))))))),
+    ((refl, (refl, (refl, (refl, (refl, (refl, (refl, (refl, (refl, (refl, (refl, (refl, (refl, (refl, (refl, (refl, tt)))))))))))))))),
+    ((refl, (refl, (refl, (refl, (refl, (refl, (refl, (refl, (refl, (refl, (refl, (refl, (refl, (refl, (refl, (refl, tt)))))))))))))))),
+    ((refl, (refl, (refl, (refl, (refl, (refl, (refl, (refl, (refl, (refl, (refl, (refl, (refl, (refl, (refl, (refl, tt)))))))))))))))),
+    ((refl, (refl, (refl, (refl, (refl, (refl, (refl, (refl, (refl, (refl, (refl, (refl, (refl, (refl, (refl, (refl, tt)))))))))))))))),
+    ((refl, (refl, (refl, (refl, (refl, (refl, (refl, (refl, (refl, (refl, (refl, (refl, (refl, (refl, (refl, (refl, tt)))))))))))))))),
+    ((refl, (refl, (refl, (refl, (refl, (refl, (refl, (refl, (refl, (refl, (refl, (refl, (refl, (refl, (refl, (refl, tt)))))))))))))))),
+    ((refl, (refl, (refl, (refl, (refl, (refl, (refl, (refl, (refl, (refl, (refl, (refl, (refl, (refl, (refl, (refl, tt)))))))))))))))), tt))))))))))))))))
+
+-- what is so of each row by two digits, is so of each
+of_row : (P : ℕ → Type 0) → Each (λ h. Each (λ l. P (16 * h + l)) 16) 16 → (m : ℕ) → m < 256 → P m
+of_row P all m lt =
+    let there : 16 * (m / 16) + m % 16 ≡ m = omega arith in
+    subst P there (each (λ l. P (16 * (m / 16) + l)) 16 (m % 16) (each (λ h. Each (λ l. P (16 * h + l)) 16) 16 (m / 16) all (omega (arith, lt))) (omega arith))
+
+pub row_ok : (none : List ℕ) (m : ℕ) → m < 256 → SwzOk w8 16 16 0 (get_or ROWS m none)
+row_ok none = of_row (λ m. SwzOk w8 16 16 0 (get_or ROWS m none)) (rows_ok none)
+
+pub row_long : (none : List ℕ) (m : ℕ) → m < 256 → length (get_or ROWS m none) ≡ 16
+row_long none = of_row (λ m. length (get_or ROWS m none) ≡ 16) (rows_long none)
 
 -- a bit more before some
 one_more : (g : Bool → ℕ → ℕ → List ℕ) (m k a b : ℕ) (u z r : List ℕ) → k % 2 ≡ m % 2 → by_bits g (m / 2) (u ++ z) ≡ by_bits g (k / 2) u ++ r →
