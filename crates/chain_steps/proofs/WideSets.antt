@@ -89,6 +89,11 @@ marked_low_block x q within same wide = block_of IsWide (IsUnit Utf16) Little li
 pub marked_high_block : (x q : List ℕ) → 16 ≤ length x → take 16 x ≡ high_first q → AreWide q → IsBlock AreWide (IsUnit Utf16) Big x q 16
 marked_high_block x q within same wide = block_of IsWide (IsUnit Utf16) Big big_bytes (λ p h. (p, high_unit p h, refl, refl)) x q 16 (omega arith) within same wide
 
+-- eight units of UCS-4
+pub fours_block : (s : State) (x q : List ℕ) → 32 ≤ length x → take 32 x ≡ in_fours q → AreWide q → IsBlock AreWide (IsUnit Ucs4) s x q 32
+fours_block s x q within same wide = block_of IsWide (IsUnit Ucs4) s (λ p. 0 ∷ 0 ∷ (p / 256) ∷ (p % 256) ∷ [])
+    (λ p h. let small : p < 65536 = h.0 in (p, (omega arith, omega arith, omega (arith, small), omega arith, h.1, omega arith), refl, refl)) x q 32 (omega arith) within same wide
+
 -- eight points written in each of these sets
 pub utf8_wide : (t : State) (q : List ℕ) (at n : ℕ) (old new : List ℕ) → AreWide q → IsAppended old new at n (flat_map utf8 q) → IsBlockPut (IsSpellable Utf8) (spelling Utf8) t q at old new n
 utf8_wide t q at n old new wide put = record { has = points_have q wide; put = put; stays = refl }

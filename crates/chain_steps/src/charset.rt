@@ -7,7 +7,7 @@ use wide_lanes::{Ends, ReadEnds, Wide};
 
 /// So many bytes are left of the input and of the room where a block is tried: no block takes more, read or
 /// written, and a kernel may look at a few that it leaves.
-pub const BLOCK: usize = 72;
+pub const BLOCK: usize = 80;
 
 /// The units of sixteen points below 80 hex at the front of an input: the points, and how many bytes
 /// the units take.

@@ -35,7 +35,7 @@ sel_maps t g h (x ∷ v) = ap (λ z. cond (t x) (g x) (h x) ∷ z) (sel_maps t g
 pub below_splat : (v : List ℕ) (y : ℕ) → length v ≡ 8 → map (top 15) (zip2 (λ a b. cond (ltb a b) 65535 0) v (replicate 8 y)) ≡ map (λ x. ltb x y) v
 below_splat v y long = tops_compared w16 ltb v (replicate 8 y) ∙ zip2_splat ltb v 8 y long
 
-none_pass : (t : ℕ → Bool) (v : List ℕ) → mask_l (map t v) ≡ 0 → AllByRecursion (λ x. t x ≡ false) v
+pub none_pass : (t : ℕ → Bool) (v : List ℕ) → mask_l (map t v) ≡ 0 → AllByRecursion (λ x. t x ≡ false) v
 none_pass t [] none = tt
 none_pass t (x ∷ v) none = go (none_pass t v) (t x) refl
   where

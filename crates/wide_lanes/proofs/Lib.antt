@@ -4,3 +4,5 @@ pub mod ReadLemmas
 pub mod WindowLemmas
 pub mod EndsLemmas
 pub mod PickLemmas
+pub mod ShortLemmas
+pub mod FourLemmas

@@ -1,5 +1,5 @@
 -- Units of UTF-8 told by where they end: each byte is taken with the two before it.
-use Rattle.std.specs.Prelude.{◌≡◌, ℕ, ◌+◌, ◌*◌, ◌-◌, ◌/◌, ◌%◌, Bool, true, false, ◌&&◌, ◌||◌, List, [], ◌∷◌, nat_le, nat_lt, nat_eq, if◌then◌else◌, map}
+use Rattle.std.specs.Prelude.{◌≡◌, ℕ, ◌+◌, ◌*◌, ◌-◌, ◌/◌, ◌%◌, Bool, true, false, ◌&&◌, ◌||◌, List, [], ◌∷◌, ◌++◌, nat_le, nat_lt, nat_eq, if◌then◌else◌, map}
 
 -- a byte, the one before it, and the one before that
 pub record Window : Type 0 where
@@ -63,11 +63,26 @@ abbrev pub picked : ℕ → List ℕ → List ℕ
 picked mask [] = []
 picked mask (p ∷ q) = if nat_eq (mask % 2) 1 then p ∷ picked (mask / 2) q else picked (mask / 2) q
 
--- the same of pairs of bytes
+-- what pairs of bytes become, each by its bit, lowest ones first
+abbrev pub by_bits : (Bool → ℕ → ℕ → List ℕ) → ℕ → List ℕ → List ℕ
+by_bits becomes mask (a ∷ b ∷ bytes) = becomes (nat_eq (mask % 2) 1) a b ++ by_bits becomes (mask / 2) bytes
+by_bits becomes mask _ = []
+
+-- both bytes where the bit is set, else none
+abbrev pub both_or_none : Bool → ℕ → ℕ → List ℕ
+both_or_none t a b = if t then a ∷ b ∷ [] else []
+
+-- both bytes where the bit is set, else the first
+abbrev pub both_or_first : Bool → ℕ → ℕ → List ℕ
+both_or_first t a b = if t then a ∷ b ∷ [] else a ∷ []
+
+-- the pair the other way round and two 0 before it where the bit is set, else none
+abbrev pub four_or_none : Bool → ℕ → ℕ → List ℕ
+four_or_none t a b = if t then 0 ∷ 0 ∷ b ∷ a ∷ [] else []
+
+-- the pairs of bytes at the bits that are set
 abbrev pub picked_pairs : ℕ → List ℕ → List ℕ
-picked_pairs mask (a ∷ b ∷ bytes) =
-    if nat_eq (mask % 2) 1 then a ∷ b ∷ picked_pairs (mask / 2) bytes else picked_pairs (mask / 2) bytes
-picked_pairs mask _ = []
+picked_pairs mask bytes = by_bits both_or_none mask bytes
 
 -- how many of sixteen bytes are whole units, by the last two of them
 abbrev pub whole_of : ℕ → ℕ → ℕ

@@ -26,6 +26,10 @@ front_three p = 0xE0 + p / 4096 + 256 * last_byte (p / 64)
 abbrev pub front : ℕ → ℕ
 front p = by_size (λ p. p) front_two front_three p
 
+-- the first one or two bytes, where it has so many
+abbrev pub front_short : ℕ → ℕ
+front_short p = by_size (λ p. p) front_two front_two p
+
 -- four bytes, which begin with those of the point
 abbrev pub slot : ℕ → List ℕ
 slot p = little_bytes (front p) ++ little_bytes (last_byte p)

@@ -3,6 +3,7 @@
 ghost use Rattle.std.specs.Prelude.{◌≡◌, ◌+◌, ◌≤◌, ◌++◌, length, take, drop, IsTrue, IfSome};
 ghost use Rattle.wide_lanes.specs.Wide.{AreWide, low_first, high_first, swapped, in_fours, widened};
 
+use crate::stores::store_sixteen;
 use std::simd::prelude::*;
 
 /// Eight numbers of 16 bits.
@@ -32,7 +33,7 @@ fn numbers(bytes: u8x16) -> u16x8
 
 /// Eight numbers as pairs of bytes, low ones first.
 #[inline(always)]
-fn bytes_of(numbers: u16x8) -> u8x16
+pub fn bytes_of(numbers: u16x8) -> u8x16
     ensures value { result ≡ low_first numbers }
     ensures long { length result ≡ 16 }
 {
@@ -84,6 +85,37 @@ fn fours_of(numbers: u16x8) -> u8x32
     widen(bytes_of(numbers))
 }
 
+/// The last two bytes of each four, as a number whose high byte comes first.
+#[inline(always)]
+fn narrow(bytes: u8x32) -> u16x8 {
+    numbers(bytes.shuffle(
+        bytes,
+        [3, 2, 7, 6, 11, 10, 15, 14, 19, 18, 23, 22, 27, 26, 31, 30],
+    ))
+}
+
+#[inline(always)]
+fn are_same(first: u8x32, second: u8x32) -> bool
+    ensures { IsTrue result → first ≡ second }
+{
+    first.simd_ne(second).to_bitmask() == 0
+}
+
+/// Eight points, where the first 32 bytes are these as units of four bytes, highest ones first.
+#[inline(always)]
+pub fn load_in_fours(bytes: &[u8]) -> Option<Wide>
+    requires { 32 ≤ length bytes.now }
+    ensures { IfSome result (λ w. AreWide w.points × (take 32 bytes.now ≡ in_fours w.points)) }
+{
+    let fours = u8x32::from_slice(bytes);
+    let points = narrow(fours);
+    if are_wide(points) && are_same(fours_of(points), fours) {
+        Some(Wide { points })
+    } else {
+        None
+    }
+}
+
 /// Eight points, where the first 16 bytes are these as units, low bytes first.
 #[inline(always)]
 pub fn load_low_first(bytes: &[u8]) -> Option<Wide>
@@ -110,16 +142,6 @@ pub fn load_high_first(bytes: &[u8]) -> Option<Wide>
     } else {
         None
     }
-}
-
-#[inline(always)]
-#[tactic(auto, using(std::proofs::lemmas::Simd::put_chunk_whole))]
-fn store(bytes: u8x16, part: &mut [u8])
-    requires part { length part.old ≡ 16 }
-    requires bytes { length bytes ≡ 16 }
-    ensures { part.new ≡ bytes }
-{
-    bytes.copy_to_slice(part);
 }
 
 #[inline(always)]
@@ -151,7 +173,7 @@ pub fn put_low_first(wide: Wide, output: &mut [u8], at: usize)
     ensures front { take (at + 16) output.new ≡ take at output.old ++ low_first wide.points }
     ensures rest { drop (at + 16) output.new ≡ drop (at + 16) output.old }
 {
-    store(bytes_of(wide.points), &mut output[at..at + 16]);
+    store_sixteen(bytes_of(wide.points), &mut output[at..at + 16]);
 }
 
 /// Writes eight points behind the first `at` bytes, two bytes each, high ones first.
@@ -162,5 +184,5 @@ pub fn put_high_first(wide: Wide, output: &mut [u8], at: usize)
     ensures front { take (at + 16) output.new ≡ take at output.old ++ high_first wide.points }
     ensures rest { drop (at + 16) output.new ≡ drop (at + 16) output.old }
 {
-    store(high_bytes_of(wide.points), &mut output[at..at + 16]);
+    store_sixteen(high_bytes_of(wide.points), &mut output[at..at + 16]);
 }

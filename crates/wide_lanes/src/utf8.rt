@@ -6,6 +6,7 @@ ghost use Rattle.std.specs.List.{flat_map};
 ghost use Rattle.step_unicode.specs.Utf8.{utf8};
 ghost use Rattle.wide_lanes.specs.Wide.{AreWide};
 
+use crate::short::{are_short, put_short};
 use crate::units::Wide;
 use crate::words::{counts, slots};
 use std::simd::prelude::*;
@@ -79,6 +80,9 @@ pub fn put_utf8(wide: Wide, output: &mut [u8], at: usize) -> usize
     ensures front { take (at + result) output.new ≡ take at output.old ++ flat_map utf8 wide.points }
     ensures rest { drop (at + result) output.new ≡ drop (at + result) output.old }
 {
+    if are_short(wide.points) {
+        return put_short(wide.points, output, at);
+    }
     let made = total(wide);
     let mut kept = [0; 4];
     put_four(output, at + made, &mut kept, 0);

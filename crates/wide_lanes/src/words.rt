@@ -4,7 +4,7 @@
 ghost use Rattle.std.specs.Prelude.{◌≡◌, ℕ, length, map};
 ghost use Rattle.std.specs.List.{flat_map};
 ghost use Rattle.wide_lanes.specs.Wide.{low_first};
-ghost use Rattle.wide_lanes.specs.Words.{by_size, last_byte, front_two, front_three, count_of, turns, slot, keep};
+ghost use Rattle.wide_lanes.specs.Words.{by_size, last_byte, front_two, front_three, front_short, count_of, turns, slot, keep};
 
 use std::simd::prelude::*;
 
@@ -53,6 +53,14 @@ pub fn counts(points: u16x8) -> u16x8
     ensures long { length result ≡ 8 }
 {
     choose(points, u16x8::splat(1), u16x8::splat(2), u16x8::splat(3))
+}
+
+/// The one or two bytes of each point, where it has so many.
+#[inline(always)]
+pub fn short_fronts(points: u16x8) -> u16x8
+    ensures { result ≡ map front_short points }
+{
+    choose(points, points, twos(points), twos(points))
 }
 
 /// The numbers of two vectors in turns.

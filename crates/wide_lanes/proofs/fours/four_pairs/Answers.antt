@@ -1,7 +1,7 @@
 use Rattle.std.proofs.Common.{◌≡◌, ℕ, ◌*◌, List, [], ◌∷◌, ◌++◌, take, drop, refl, sym, ap, ◌∙◌, arith}
 use lib.Lanes.{pick_l}
 use Rattle.wide_lanes.proofs.WindowLemmas.{spelled}
-use Rattle.wide_lanes.proofs.pick.four_pairs.Goals as goal
+use Rattle.wide_lanes.proofs.fours.four_pairs.Goals as goal
 
 last_eight : (v : List ℕ) → List ℕ
 last_eight v = pick_l 0 (v ++ v) (24 ∷ 25 ∷ 26 ∷ 27 ∷ 28 ∷ 29 ∷ 30 ∷ 31 ∷ [])
