@@ -1,15 +1,22 @@
 -- Points below 80 hex in tables whose lower half is ASCII, and in ISO-2022-JP in its initial state.
 use Rattle.std.proofs.Common.{◌≡◌, ◌≢◌, ℕ, ◌<◌, ◌≤◌, Bool, true, false, cond, List, [], ◌∷◌, ◌++◌, length, take, Option, Some, None, refl, ap, sym, ◌∙◌, subst, arith, inl, inr}
-use Rattle.std.specs.Prelude.{unwrap_or, IsSome, nat_le, nat_eq}
+use Rattle.std.specs.Prelude.{unwrap_or, IsSome, MatchOption, nat_le, nat_eq}
 use Rattle.std.specs.List.{AllByRecursion, flat_map, filter_map, zip}
 use Rattle.std.proofs.lemmas.Bool.Decides.{nat_tests}
 use Rattle.std.proofs.lemmas.Bool.{cases_lt}
 use Rattle.ascii_lanes.specs.Plain.{ArePlain}
-use Rattle.code_pairs.specs.Tables.{Table, code_of}
+use Rattle.code_pairs.specs.Tables.{Table, code_of, IsCode, IsWellFormed}
 use Rattle.code_table.specs.Ascii.{IsAscii}
 use Rattle.step_unicode.specs.declared.set.State.{State}
-use Rattle.step_unicode.specs.declared.set.State.TheVariants.{Plain}
+use Rattle.step_unicode.specs.declared.set.State.TheVariants.{Plain, Kanji}
+use Rattle.step_unicode.specs.Points.{IsPoint}
+use Rattle.unit_relations.specs.Units.{Piece, Reads}
+use Rattle.wide_lanes.specs.Wide.{AreWide}
+use Rattle.step_table.specs.Many.{ArePut}
+use Rattle.step_table.specs.Eight.{AreCodes, AreEight}
+use Rattle.step_table.specs.declared.eight.Eight.{Eight}
 use Rattle.step_table.specs.Sets.{IsTableUnit, IsInTable, spelled, table_spelling}
+use Rattle.step_iso2022jp.specs.Eight.{AreKanji}
 use Rattle.step_iso2022jp.specs.Sets.{IsJpUnit, IsPointUnit, IsInJp, Written, written_of, written, jp_spelling, jp_bytes, jp_after}
 use Rattle.chain_steps.specs.Appended.{IsAppended}
 use Rattle.chain_steps.specs.Blocks.{IsBlock, IsBlockPut}
@@ -25,6 +32,46 @@ pub table_put : (table : Table) → IsAscii table → (t : State) (q : List ℕ)
 table_put table ascii t q at n old new plain put = record {
   has = all_have Low (IsInTable table) (λ p h. subst (λ o. IsSome o) (sym (ascii p h).code) refl) q plain;
   put = subst (λ w. IsAppended old new at n w) (sym (spelled_same Low (spelled table) (λ p. p ∷ []) (λ p h. ap (λ o. unwrap_or o []) (ascii p h).code) q plain ∙ bytes_alone q)) put;
+  stays = refl;
+}
+
+-- codes one behind another are units
+codes_read : (table : Table) (s : State) (q x : List ℕ) → AreCodes table q x → Reads (IsTableUnit table) s x q s
+codes_read table s [] x are = record { cut = []; units = refl; bytes = are; points = refl }
+codes_read table s (p ∷ q) x (code, rest, is, small, whole, are) =
+    let tail : Reads (IsTableUnit table) s rest q s = codes_read table s q rest are in
+    let piece : Piece State = record { bytes = code; point = Some p; state = s } in
+    record {
+      cut = piece ∷ tail.cut;
+      units = ((p, is, refl, refl), tail.units);
+      bytes = whole ∙ ap (λ z. code ++ z) tail.bytes;
+      points = ap (λ z. p ∷ z) tail.points;
+    }
+
+-- their points are points below 10000 hex
+codes_wide : (table : Table) → IsWellFormed table → ((t : Table) (u : List ℕ) (p : ℕ) → IsWellFormed t → IsCode t u p → IsPoint p) →
+    (q x : List ℕ) → AreCodes table q x → AreWide q
+codes_wide table well points [] x are = tt
+codes_wide table well points (p ∷ q) x (code, rest, is, small, whole, are) =
+    ((small, points table code p well is), codes_wide table well points q rest are)
+
+-- eight codes of a table
+pub eight_block : (table : Table) → IsWellFormed table → ((t : Table) (u : List ℕ) (p : ℕ) → IsWellFormed t → IsCode t u p → IsPoint p) →
+    (s : State) (x : List ℕ) (r : Eight) → AreEight table x r → IsBlock AreWide (IsTableUnit table) s x r.points r.used
+eight_block table well points s x r eight = record {
+  some = eight.some;
+  within = eight.within;
+  form = codes_wide table well points r.points (take r.used x) eight.codes;
+  reads = codes_read table s r.points (take r.used x) eight.codes;
+}
+
+-- points that were written in a table at once, or not
+pub all_put : (table : Table) (t : State) (q : List ℕ) (at : ℕ) (old new : List ℕ) (r : Option ℕ) → MatchOption r (new ≡ old) (ArePut table q at old new) →
+    MatchOption r (new ≡ old) (λ n. IsBlockPut (IsInTable table) (table_spelling table) t q at old new n)
+all_put table t q at old new None same = same
+all_put table t q at old new (Some n) put = record {
+  has = put.has;
+  put = record { within = put.within; front = put.front; rest = put.rest };
   stays = refl;
 }
 
@@ -94,3 +141,32 @@ jp_put roman kanji q at n old new plain lacks put =
       put = subst (λ w. IsAppended old new at n w) (sym all.bytes) put;
       stays = all.after;
     }
+
+-- codes of the Kanji set one behind another are units
+kanji_read : (roman kanji : Table) (q x : List ℕ) → AreKanji kanji q x → Reads (IsJpUnit roman kanji) Kanji x q Kanji
+kanji_read roman kanji [] x are = record { cut = []; units = refl; bytes = are; points = refl }
+kanji_read roman kanji (p ∷ q) x (code, rest, is, whole, are) =
+    let tail : Reads (IsJpUnit roman kanji) Kanji rest q Kanji = kanji_read roman kanji q rest are in
+    let piece : Piece State = record { bytes = code; point = Some p; state = Kanji } in
+    record {
+      cut = piece ∷ tail.cut;
+      units = (inr (p, inr (is.counts, is.stands), refl, refl), tail.units);
+      bytes = whole ∙ ap (λ z. code ++ z) tail.bytes;
+      points = ap (λ z. p ∷ z) tail.points;
+    }
+
+kanji_wide : (kanji : Table) → IsWellFormed kanji → ((t : Table) (u : List ℕ) (p : ℕ) → IsWellFormed t → IsCode t u p → IsPoint p) →
+    (q x : List ℕ) → AreKanji kanji q x → AreWide q
+kanji_wide kanji well points [] x are = tt
+kanji_wide kanji well points (p ∷ q) x (code, rest, is, whole, are) =
+    ((is.small, points kanji code p well is.stands), kanji_wide kanji well points q rest are)
+
+-- eight codes of the Kanji set
+pub kanji_block : (roman kanji : Table) → IsWellFormed kanji → ((t : Table) (u : List ℕ) (p : ℕ) → IsWellFormed t → IsCode t u p → IsPoint p) →
+    (x q : List ℕ) → 16 ≤ length x → AreKanji kanji q (take 16 x) → IsBlock AreWide (IsJpUnit roman kanji) Kanji x q 16
+kanji_block roman kanji well points x q within are = record {
+  some = omega arith;
+  within = within;
+  form = kanji_wide kanji well points q (take 16 x) are;
+  reads = kanji_read roman kanji q (take 16 x) are;
+}
