@@ -1,12 +1,12 @@
 -- Pages of modules in a store.
-use Rattle.std.proofs.Common.{◌≡◌, ℕ, zero, suc, ◌+◌, ◌<◌, ◌≤◌, Bool, false, not, cond, List, [], ◌∷◌, ◌++◌, length, map, take, drop, get_or, sym, refl, ap, ◌∙◌, arith, append_assoc, append-nil, length-drop, ⊎_elim}
+use Rattle.std.proofs.Common.{◌≡◌, ℕ, zero, suc, ◌+◌, ◌-◌, ◌<◌, ◌≤◌, Bool, false, not, cond, List, [], ◌∷◌, ◌++◌, length, map, take, drop, get_or, sym, refl, subst, ap, ◌∙◌, arith, append_assoc, append-nil, length-append, length-drop, ⊎_elim}
 use Rattle.std.specs.List.{filter, range_with_len}
 use Rattle.std.proofs.lemmas.List.{map-append, take_more}
 use Rattle.module_counts.specs.declared.store.Place.{Place}
 use Rattle.runtime_histories.specs.Places.{among, free_of}
 use Rattle.std.specs.declared.vec.Vec.{Vec}
 use Rattle.std.specs.declared.alloc.Global.{Global}
-use Rattle.std.proofs.lemmas.List.{length-map, length-take-le}
+use Rattle.std.proofs.lemmas.List.{length-map, length-take, length-take-le, take-append-le}
 use Rattle.std.proofs.Common.{get_or-drop}
 use Rattle.runtime_histories.specs.declared.loads.Load.{Load}
 use Rattle.module_counts.specs.Stocks.{Seat, seat, seat_pages, seated, lists, IsMap, unset}
@@ -33,6 +33,27 @@ pub unset-more : (bits : List Bool) (i : ℕ) → unset bits (i + 1) ≡ unset b
 unset-more bits i = ap (filter (λ k. not (get_or bits k false))) (range-more 0 i)
     ∙ (filter-append (λ k. not (get_or bits k false)) (range_with_len 0 i) ((0 + i) ∷ [])
     ∙ (let e : 0 + i ≡ i = omega arith in ap (λ (z : ℕ). unset bits i ++ cond (not (get_or bits z false)) (z ∷ []) []) e))
+
+-- Where as many pages were found as are needed, those behind them don't count.
+unset-behind : (bits : List Bool) (i k need : ℕ) → need ≤ length (unset bits i)
+    → take need (unset bits (i + k)) ≡ take need (unset bits i)
+unset-behind bits i zero need le = let e : i + 0 ≡ i = omega arith in ap (λ (z : ℕ). take need (unset bits z)) e
+unset-behind bits i (suc k) need le =
+    let more : List ℕ = cond (not (get_or bits i false)) (i ∷ []) [] in
+    let e : i + suc k ≡ i + 1 + k = omega arith in
+    let long : need ≤ length (unset bits i ++ more) = omega (arith, length-append (unset bits i) more, le) in
+    ap (λ (z : ℕ). take need (unset bits z)) e
+    ∙ unset-behind bits (i + 1) k need (subst (λ (z : List ℕ). need ≤ length z) (sym (unset-more bits i)) long)
+    ∙ ap (take need) (unset-more bits i) ∙ take-append-le need (unset bits i) more le
+
+-- The same where those that were found are told, and all pages.
+pub unset-enough : (bits : List Bool) (i pages need : ℕ) (found : List ℕ) → i ≤ pages
+    → found ≡ take need (unset bits i) → need ≤ length found → found ≡ take need (unset bits pages)
+unset-enough bits i pages need found within is enough =
+    let all : i + (pages - i) ≡ pages = omega arith in
+    let long : need ≤ length (take need (unset bits i)) = subst (λ (z : List ℕ). need ≤ length z) is enough in
+    let le : need ≤ length (unset bits i) = omega (arith, length-take need (unset bits i), long) in
+    is ∙ sym (unset-behind bits i (pages - i) need le) ∙ ap (λ (z : ℕ). take need (unset bits z)) all
 
 in_range : (a n k : ℕ) → IsIn k (range_with_len a n) → (a ≤ k) × (k < a + n)
 in_range a zero k h = absurd h

@@ -33,10 +33,8 @@ pub fn push_within<T: Drop>(items: &mut Vec<T>, item: T)
 fn no_bits(alloc: Global, count: u32) -> Result<Vec<bool>, AllocError>
     ensures { IfOk result (λ v. v.items ≡ replicate count false) }
 {
-    let mut bits = Vec::with_capacity(alloc, count as usize)?;
-    for _ in 0..count {
-        bits.push(false)?;
-    }
+    let mut bits = Vec::new(alloc);
+    bits.resize(count as usize, false)?;
     Ok(bits)
 }
 
@@ -78,13 +76,16 @@ fn offer(chosen: &mut Vec<u32>, page: u32, need: u64) -> Result<(), AllocError>
     Ok(())
 }
 
-/// The lowest pages whose bits aren't set.
+/// The lowest pages whose bits aren't set. No page is looked at behind the last of them.
 fn lowest_unset(alloc: Global, bits: &[bool], pages: u32, need: u64) -> Result<Vec<u32>, AllocError>
     requires { length bits.now ≡ pages }
     ensures { IfOk result (λ v. v.items ≡ take need (unset bits.now pages)) }
 {
     let mut chosen = Vec::new(alloc);
     for page in 0..pages {
+        if chosen.len() as u64 >= need {
+            return Ok(chosen);
+        }
         if !bits[page as usize] {
             offer(&mut chosen, page, need)?;
         }
