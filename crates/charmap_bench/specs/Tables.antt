@@ -2,7 +2,7 @@
 use Rattle.std.specs.Prelude.{◌≡◌, ℕ, List, length, Ok, MatchResult}
 use Rattle.code_pairs.specs.Tables.{IsWellFormed}
 use Rattle.charmap_reader.specs.Charmap.{charmap_of}
-use Rattle.charmap_reader.specs.Scan.{Fails}
+use Rattle.charmap_reader.specs.Faults.{Fails}
 use Rattle.code_table.specs.Faults.{IsTableFault}
 use Rattle.charmap_bench.specs.declared.tables.Built.{Built}
 use Rattle.charmap_bench.specs.declared.tables.Refusal.{Refusal}
