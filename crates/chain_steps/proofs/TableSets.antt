@@ -8,7 +8,7 @@ use Rattle.ascii_lanes.specs.Plain.{ArePlain}
 use Rattle.code_pairs.specs.Tables.{Table, code_of, IsCode, IsWellFormed}
 use Rattle.code_table.specs.Ascii.{IsAscii}
 use Rattle.step_unicode.specs.declared.set.State.{State}
-use Rattle.step_unicode.specs.declared.set.State.TheVariants.{Plain, Kanji}
+use Rattle.step_unicode.specs.declared.set.State.TheVariants.{Plain}
 use Rattle.step_unicode.specs.Points.{IsPoint}
 use Rattle.unit_relations.specs.Units.{Piece, Reads}
 use Rattle.wide_lanes.specs.Wide.{AreWide}
@@ -16,7 +16,6 @@ use Rattle.step_table.specs.Many.{ArePut}
 use Rattle.step_table.specs.Eight.{AreCodes, AreEight}
 use Rattle.step_table.specs.declared.eight.Eight.{Eight}
 use Rattle.step_table.specs.Sets.{IsTableUnit, IsInTable, spelled, table_spelling}
-use Rattle.step_iso2022jp.specs.Eight.{AreKanji}
 use Rattle.step_iso2022jp.specs.Sets.{IsJpUnit, IsPointUnit, IsInJp, Written, written_of, written, jp_spelling, jp_bytes, jp_after}
 use Rattle.chain_steps.specs.Appended.{IsAppended}
 use Rattle.chain_steps.specs.Blocks.{IsBlock, IsBlockPut}
@@ -141,32 +140,3 @@ jp_put roman kanji q at n old new plain lacks put =
       put = subst (λ w. IsAppended old new at n w) (sym all.bytes) put;
       stays = all.after;
     }
-
--- codes of the Kanji set one behind another are units
-kanji_read : (roman kanji : Table) (q x : List ℕ) → AreKanji kanji q x → Reads (IsJpUnit roman kanji) Kanji x q Kanji
-kanji_read roman kanji [] x are = record { cut = []; units = refl; bytes = are; points = refl }
-kanji_read roman kanji (p ∷ q) x (code, rest, is, whole, are) =
-    let tail : Reads (IsJpUnit roman kanji) Kanji rest q Kanji = kanji_read roman kanji q rest are in
-    let piece : Piece State = record { bytes = code; point = Some p; state = Kanji } in
-    record {
-      cut = piece ∷ tail.cut;
-      units = (inr (p, inr (is.counts, is.stands), refl, refl), tail.units);
-      bytes = whole ∙ ap (λ z. code ++ z) tail.bytes;
-      points = ap (λ z. p ∷ z) tail.points;
-    }
-
-kanji_wide : (kanji : Table) → IsWellFormed kanji → ((t : Table) (u : List ℕ) (p : ℕ) → IsWellFormed t → IsCode t u p → IsPoint p) →
-    (q x : List ℕ) → AreKanji kanji q x → AreWide q
-kanji_wide kanji well points [] x are = tt
-kanji_wide kanji well points (p ∷ q) x (code, rest, is, whole, are) =
-    ((is.small, points kanji code p well is.stands), kanji_wide kanji well points q rest are)
-
--- eight codes of the Kanji set
-pub kanji_block : (roman kanji : Table) → IsWellFormed kanji → ((t : Table) (u : List ℕ) (p : ℕ) → IsWellFormed t → IsCode t u p → IsPoint p) →
-    (x q : List ℕ) → 16 ≤ length x → AreKanji kanji q (take 16 x) → IsBlock AreWide (IsJpUnit roman kanji) Kanji x q 16
-kanji_block roman kanji well points x q within are = record {
-  some = omega arith;
-  within = within;
-  form = kanji_wide kanji well points q (take 16 x) are;
-  reads = kanji_read roman kanji q (take 16 x) are;
-}
