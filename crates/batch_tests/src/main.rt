@@ -9,22 +9,13 @@
 //! bytes NAME HEX             appends bytes; no bytes are written as -
 //! size NAME N                appends letters, so that the file has N bytes
 //! fail files|charmaps|output N       the Nth call of these is to fail
-//! hold JOB POINT until JOB POINT [N times]
-//!                            who comes to a point (taken, opened or ended) with a job, or with any, is held
-//!                            until so many came to the other one, once where N isn't told
-//! hold nobody                drops all holds
-//! journal letters|works      how journals are written: with callers as letters, in the order in which
-//!                            they come, or as whole works, sorted: what was opened, and then closed
 //! run WORD..                 runs the program's words: the status and its cause, what was written, the
-//!                            entries of the journal, the charmaps that were asked for, and whether
-//!                            somebody was held in vain
+//!                            entries of the journal, and the charmaps that were asked for
 //! show NAME   text NAME      what the files of the last run hold under a name, as bytes or as lines
 //! ```
 #![tactic(auto)]
 
 mod hex;
-mod holds;
-mod journals;
 mod ran;
 mod setup;
 mod shown;

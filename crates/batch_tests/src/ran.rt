@@ -1,15 +1,12 @@
 //! Runs, and what they leave.
 
-use crate::holds::Holds;
-use crate::journals::{Order, lines_of};
 use crate::setup::Setup;
 use crate::shown::add_lines;
 use anyhow::Result;
 use batch_alone::Ended;
-use batch_book::OneThread;
-use batch_gconv::ManyThreads;
-use batch_whole::{run, run_words_with_workers};
-use outside::{Files, Library, ShelfFiles, ShelfLibrary, Sink, SureLibrary};
+use batch_jobs::journal_text;
+use batch_whole::run;
+use outside::{Files, Library, ShelfFiles, ShelfLibrary, Sink};
 use runtime_histories::Entry;
 use std::alloc::{AllocError, Global};
 use std::sync::Wait;
@@ -36,28 +33,6 @@ fn run_words<R: AllocGlobal + Threads + Wait + Sync, F: Files, L: Library + Send
     out: &mut O,
 ) -> Ended<L> {
     run(rt, words, files, library, out)
-}
-
-/// Runs words with workers that pass a gate.
-fn run_held<R: AllocGlobal + Threads + Wait + Sync, F: Files, L: Library + Send, O: Sink>(
-    rt: &R,
-    words: &[String],
-    files: &mut F,
-    library: L,
-    gate: &Holds,
-    out: &mut O,
-) -> Ended<L> {
-    run_words_with_workers::<
-        L,
-        OneThread<L>,
-        OneThread<SureLibrary>,
-        ManyThreads<L>,
-        ManyThreads<SureLibrary>,
-        F,
-        Holds,
-        O,
-        R,
-    >(rt, rt.alloc(), words, files, library, gate, out)
 }
 
 /// The words as texts of their own.
@@ -96,27 +71,13 @@ fn add_written(text: &mut String, bytes: &[u8]) -> Result<(), AllocError> {
 }
 
 /// Appends the lines of a journal, or how many entries it has where they are many.
-fn add_journal(alloc: Global, text: &mut String, order: Order, entries: &[Entry]) -> Result<()> {
+fn add_journal(alloc: Global, text: &mut String, entries: &[Entry]) -> Result<(), AllocError> {
     let count = entries.len();
     if count > MOST_ENTRIES {
-        write!(text, "\n    journal of {count}")?;
-        return Ok(());
+        return write!(text, "\n    journal of {count}");
     }
     text.push_str("\n    journal")?;
-    for line in &lines_of(alloc, order, entries)? {
-        let line = line.as_str();
-        write!(text, "\n        {line}")?;
-    }
-    Ok(())
-}
-
-/// Appends what a gate tells.
-fn add_gate(text: &mut String, gate: &Holds) -> Result<(), AllocError> {
-    if gate.was_in_vain() {
-        text.push_str("\n    somebody was held in vain")
-    } else {
-        text.push_str("\n    nobody was held in vain")
-    }
+    add_lines(text, journal_text(alloc, entries)?.as_slice())
 }
 
 /// Runs words, and tells what came of it.
@@ -130,22 +91,15 @@ pub fn ran<R: AllocGlobal + Threads + Wait + Sync>(
     let mut files = setup.files(alloc)?;
     let mut out = setup.output(alloc)?;
     let library = setup.library(alloc)?;
-    let gate = setup.gate(alloc)?;
     let Ended {
         status,
         cause,
         library,
         journal,
-    } = match &gate {
-        Some(gate) => run_held(rt, words.as_slice(), &mut files, library, gate, &mut out),
-        None => run_words(rt, words.as_slice(), &mut files, library, &mut out),
-    };
+    } = run_words(rt, words.as_slice(), &mut files, library, &mut out);
     let mut text = format!(in alloc; "\n    status {status} {cause:?}")?;
     add_written(&mut text, out.written())?;
-    add_journal(alloc, &mut text, setup.order, journal.as_slice())?;
+    add_journal(alloc, &mut text, journal.as_slice())?;
     add_reads(&mut text, &library)?;
-    if let Some(gate) = &gate {
-        add_gate(&mut text, gate)?;
-    }
     Ok(Left { files, text })
 }

@@ -1,10 +1,7 @@
-//! What a run is made of: files, which calls are to fail, and where workers are held.
+//! What a run is made of: files, and which calls are to fail.
 
 use crate::hex::bytes_of;
-use crate::holds::{Hold, Holds, Place};
-use crate::journals::Order;
-use anyhow::{Context, Result, bail};
-use batch_workers::Point;
+use anyhow::{Context, Result};
 use outside::{ShelfFiles, ShelfLibrary, ShelfSink};
 use std::alloc::{AllocError, Global};
 
@@ -25,36 +22,12 @@ pub struct Setup {
     failing_files: Vec<u32>,
     failing_charmaps: Vec<u32>,
     failing_output: Vec<u32>,
-    holds: Vec<Hold>,
-    pub order: Order,
 }
 
 /// The number of a word.
 fn number(word: &str) -> Result<u32> {
     word.parse::<u32>()
         .context(format_args!("{word:?} is no number"))
-}
-
-/// The point of a word.
-fn point(word: &str) -> Result<Point> {
-    match word {
-        "taken" => Ok(Point::Taken),
-        "opened" => Ok(Point::Opened),
-        "ended" => Ok(Point::Ended),
-        _ => bail!("{word:?} is no point"),
-    }
-}
-
-/// Where a worker stands, by two words.
-fn stand(job: &str, at: &str) -> Result<Place> {
-    let job = match job {
-        "any" => None,
-        _ => Some(number(job)?),
-    };
-    Ok(Place {
-        job,
-        point: point(at)?,
-    })
 }
 
 /// The place of the file of a name, which is made where there is none.
@@ -99,8 +72,6 @@ impl Setup {
             failing_files: Vec::new(alloc),
             failing_charmaps: Vec::new(alloc),
             failing_output: Vec::new(alloc),
-            holds: Vec::new(alloc),
-            order: Order::Numbers,
         }
     }
 
@@ -136,16 +107,6 @@ impl Setup {
         Ok(())
     }
 
-    /// Adds a hold to the gate.
-    fn hold(&mut self, held: Place, awaited: Place, times: u32) -> Result<(), AllocError> {
-        self.holds.push(Hold {
-            held,
-            awaited,
-            times: u64::from(times),
-        })?;
-        Ok(())
-    }
-
     /// Takes a line that is for a run to come; the answer says whether it is one.
     pub fn takes(&mut self, alloc: Global, words: &[&str]) -> Result<bool> {
         match *words {
@@ -163,15 +124,6 @@ impl Setup {
             ["fail", "files", at] => self.failing_files.push(number(at)?)?,
             ["fail", "charmaps", at] => self.failing_charmaps.push(number(at)?)?,
             ["fail", "output", at] => self.failing_output.push(number(at)?)?,
-            ["hold", job, at, "until", other, there] => {
-                self.hold(stand(job, at)?, stand(other, there)?, 1)?
-            }
-            ["hold", job, at, "until", other, there, times, "times"] => {
-                self.hold(stand(job, at)?, stand(other, there)?, number(times)?)?
-            }
-            ["hold", "nobody"] => self.holds = Vec::new(alloc),
-            ["journal", "letters"] => self.order = Order::Letters,
-            ["journal", "works"] => self.order = Order::Works,
             _ => return Ok(false),
         }
         Ok(true)
@@ -187,14 +139,6 @@ impl Setup {
     pub fn library(&self, alloc: Global) -> Result<ShelfLibrary, AllocError> {
         let files = copied(alloc, self.files.as_slice())?;
         Ok(ShelfLibrary::new(alloc, files, self.failing_charmaps.clone()?))
-    }
-
-    /// The gate, where it holds somebody.
-    pub fn gate(&self, alloc: Global) -> Result<Option<Holds>, AllocError> {
-        if self.holds.is_empty() {
-            return Ok(None);
-        }
-        Ok(Some(Holds::new(alloc, self.holds.as_slice())?))
     }
 
     /// The output.
