@@ -9,4 +9,4 @@ pub mod Stages
 pub mod Overlaps
 pub mod Leasts
 pub mod Faults
-pub mod Rows
+pub mod Examples
