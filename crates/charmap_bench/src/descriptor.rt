@@ -21,14 +21,23 @@ use std::sync::ledger::{Blank, Ledger};
 use std::time::CpuClock;
 use work_steps::Steps;
 
-/// The two names of a pair.
-fn names(direction: Direction) -> (&'static [u8], &'static [u8])
-    ensures first { length result.0.now ≤ longest_text }
-    ensures second { length result.1.now ≤ longest_text }
+/// What a text is converted from.
+fn source(direction: Direction) -> &'static [u8]
+    ensures { length result.now ≤ longest_text }
 {
     match direction {
-        Direction::To => (b"UTF-8", b"SA"),
-        Direction::From => (b"SA", b"UTF-8"),
+        Direction::To => b"UTF-8",
+        Direction::From => b"SA",
+    }
+}
+
+/// What it is converted to.
+fn target(direction: Direction) -> &'static [u8]
+    ensures { length result.now ≤ longest_text }
+{
+    match direction {
+        Direction::To => b"SA",
+        Direction::From => b"UTF-8",
     }
 }
 
@@ -49,7 +58,7 @@ fn open_with<L: Library, R: Wait, K: Ledger>(
     ensures owns { IfSome result (Owns gconv.now caller.new) }
 {
     let mut steps: Steps<K> = Steps::new(ledger);
-    let (from, to) = names(direction);
+    let (from, to) = (source(direction), target(direction));
     match gconv.open_pair(rt, alloc, caller, from, to, &mut steps) {
         Ok(descriptor) => Some(descriptor),
         Err(_) => None,

@@ -3,26 +3,29 @@
 use anyhow::Result;
 use batch_jobs::{Outcome, journal_text, report_line};
 use chain_steps::Progress;
-use outside::ShelfLibrary;
 use gconv_runtime::Closed;
+use outside::ShelfLibrary;
 use runtime_histories::Refusal;
 use std::alloc::Global;
 
 /// The text of bytes that are one.
 fn text_of(bytes: &[u8]) -> &str {
-    str::from_utf8(bytes).unwrap_or("?")
+    match str::from_utf8(bytes) {
+        Ok(text) => text,
+        Err(_) => "?",
+    }
 }
 
 /// Appends why a pair isn't opened, and the module at which it failed.
 pub fn add_refusal(alloc: Global, text: &mut String, why: Refusal) -> Result<()> {
-    if let Refusal::LibraryFault { module, .. }
-    | Refusal::NoCharmap { module, .. }
-    | Refusal::BadCharmap { module, .. } = &why
-    {
-        write!(text, "module {module} ")?;
+    match &why {
+        Refusal::LibraryFault { module, .. }
+        | Refusal::NoCharmap { module, .. }
+        | Refusal::BadCharmap { module, .. } => write!(text, "module {module} ")?,
+        _ => {}
     }
     let line = report_line(alloc, 0, &Outcome::Refused(why))?;
-    text.push_str(text_of(&line.as_slice()[3..]))?;
+    text.push_str(text_of(line.as_slice().get(3..).unwrap_or(&[])))?;
     Ok(())
 }
 

@@ -38,7 +38,7 @@ fn main(rt: HostRuntime) -> Result<()> {
             print!(&rt; "{text}")?;
             script = Script::new(rt.alloc());
         } else {
-            script.take(rt.alloc(), line)?;
+            script.take(rt.alloc(), line.as_str())?;
         }
     }
     Ok(())

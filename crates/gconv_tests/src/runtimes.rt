@@ -6,7 +6,7 @@ use crate::acts::play;
 use crate::answers::add_end;
 use crate::scripts::Script;
 use crate::texts::{bindings_text, modules_text};
-use anyhow::{Context, Result, ensure};
+use anyhow::{Context, Result, bail, ensure};
 use gconv_runtime::{Closed, Gconv, Lead};
 use module_graph::{Graph, modules_name_charmaps};
 use modules_conf::{aliases_of, read_bindings, read_modules};
@@ -45,10 +45,7 @@ fn start(
 }
 
 /// Ends a runtime; there is nothing of it while somebody is away.
-fn finish(
-    gconv: Gconv<ShelfLibrary>,
-    lead: Lead<ShelfLibrary>,
-) -> Option<Closed<ShelfLibrary>>
+fn finish(gconv: Gconv<ShelfLibrary>, lead: Lead<ShelfLibrary>) -> Option<Closed<ShelfLibrary>>
     requires { Leads gconv lead }
 {
     if lead.away() == 0 {
@@ -71,7 +68,9 @@ pub fn answers_of<R: Wait>(rt: &R, alloc: Global, script: Script) -> Result<Stri
     ensure!(pages <= 65_536, "too many pages");
     ensure!(limit <= 16_777_216, "too many entries");
     let library = ShelfLibrary::new(alloc, charmaps, failing);
-    let (gconv, mut lead) = start(alloc, library, pages, limit).context("there is no runtime")?;
+    let Some((gconv, mut lead)) = start(alloc, library, pages, limit) else {
+        bail!("there is no runtime");
+    };
     let mut text = String::new(alloc);
     write!(text, "runtime {pages} {limit}\n")?;
     let played = play(rt, alloc, &gconv, &mut lead, acts.as_slice(), &mut text);

@@ -46,7 +46,7 @@ impl Script {
     }
 
     /// Takes a line.
-    pub fn take(&mut self, alloc: Global, line: String) -> Result<()> {
+    pub fn take(&mut self, alloc: Global, line: &str) -> Result<()> {
         let (word, rest) = line.split_once(' ').context("this is no line")?;
         match word {
             "charmap" => {
@@ -60,7 +60,7 @@ impl Script {
                 self.pages = number(pages)?;
                 self.limit = number(limit)?;
             }
-            _ => self.acts.push(line)?,
+            _ => self.acts.push(String::from_str(alloc, line)?)?,
         }
         Ok(())
     }

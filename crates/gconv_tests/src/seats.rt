@@ -1,5 +1,5 @@
 //! A caller with its descriptor, and its calls.
-ghost use Rattle.std.specs.Prelude.{◌≡◌, ◌<◌, ◌≤◌, length, IfOk};
+ghost use Rattle.std.specs.Prelude.{◌≡◌, ◌<◌, ◌≤◌, length, IfOk, IfSome};
 ghost use Rattle.gconv_runtime.specs.Tokens.{Knows, Leads};
 ghost use Rattle.gconv_runtime.specs.Owning.{Owns};
 ghost use Rattle.text_lines.specs.Limits.{longest_text};
@@ -89,7 +89,14 @@ pub fn opened<L: Library, R: Wait>(
     };
     ensure!(from.len() <= LONGEST_TEXT as usize, "too long");
     ensure!(to.len() <= LONGEST_TEXT as usize, "too long");
-    match open(rt, alloc, gconv, &mut caller, from.as_bytes(), to.as_bytes()) {
+    match open(
+        rt,
+        alloc,
+        gconv,
+        &mut caller,
+        from.as_bytes(),
+        to.as_bytes(),
+    ) {
         Ok(descriptor) => {
             let number = descriptor.number();
             write!(text, "{number}\n")?;
@@ -139,7 +146,33 @@ pub fn closed<L: Library, R: Wait>(
     Ok(Seat::Idle(caller))
 }
 
-/// Ends the caller, or writes how many descriptors it holds.
+/// Ends a caller, or writes how many descriptors it holds.
+fn end<L: Library>(
+    gconv: &Gconv<L>,
+    lead: &mut Lead<L>,
+    caller: Caller<L>,
+    text: &mut String,
+) -> Result<Option<Caller<L>>>
+    requires lead { Leads gconv.now lead.old }
+    requires knows { Knows gconv.now caller }
+    ensures lead { Leads gconv.now lead.new }
+    ensures same { IfOk result (λ left. IfSome left (λ c. c ≡ caller)) }
+{
+    match gconv.end(lead, caller) {
+        Ok(front) => {
+            let length = front.length;
+            write!(text, "{length}\n")?;
+            Ok(None)
+        }
+        Err(holding) => {
+            let Holding { count, caller } = holding;
+            write!(text, "holds {count}\n")?;
+            Ok(Some(caller))
+        }
+    }
+}
+
+/// Ends the caller, which stays where it has a descriptor.
 pub fn ended<L: Library>(
     gconv: &Gconv<L>,
     lead: &mut Lead<L>,
@@ -153,21 +186,13 @@ pub fn ended<L: Library>(
 {
     match seat {
         Seat::Free => bail!("there is no caller"),
-        Seat::Idle(caller) => match gconv.end(lead, caller) {
-            Ok(front) => {
-                let length = front.length;
-                write!(text, "{length}\n")?;
-                Ok(Seat::Free)
-            }
-            Err(_) => bail!("it holds what it has lost"),
+        Seat::Idle(caller) => match end(gconv, lead, caller, text)? {
+            Some(caller) => Ok(Seat::Idle(caller)),
+            None => Ok(Seat::Free),
         },
-        Seat::Busy(caller, descriptor) => match gconv.end(lead, caller) {
-            Ok(_) => bail!("it ended with a descriptor"),
-            Err(holding) => {
-                let Holding { count, caller } = holding;
-                write!(text, "holds {count}\n")?;
-                Ok(Seat::Busy(caller, descriptor))
-            }
+        Seat::Busy(caller, descriptor) => match end(gconv, lead, caller, text)? {
+            Some(caller) => Ok(Seat::Busy(caller, descriptor)),
+            None => Ok(Seat::Free),
         },
     }
 }
