@@ -10,7 +10,7 @@ use Rattle.runtime_histories.specs.declared.entries.Event.TheVariants.{Opening, 
 use Rattle.runtime_histories.specs.declared.entries.Entry.{Entry}
 use Rattle.module_counts.specs.declared.stock.Stock.{Stock}
 use Rattle.runtime_histories.specs.Deeds.{Deeds}
-use Rattle.module_counts.specs.Tracking.{IsTracking}
+use Rattle.module_counts.specs.Tracking.{IsTracking, IsRecent}
 use Rattle.runtime_histories.specs.Entries.{deeds}
 use Rattle.chain_search.specs.declared.chain.Chain.{Chain}
 use Rattle.module_counts.specs.Stocks.{seat}
@@ -21,10 +21,11 @@ use Rattle.module_counts.specs.Counting.{Booked, Follows, IsKnown, IsStock}
 use Rattle.runtime_histories.proofs.Legality.{sound_first}
 
 -- Nothing was opened.
-pub stock_first : (g : Shape) (s : Stock) → IsTracking s.ages [] → s.ages.clock ≡ 0 → ((m : ℕ) → get_or s.ages.held.items m 0 ≡ 0) → s.live.items ≡ [] → s.placed.items ≡ []
+pub stock_first : (g : Shape) (s : Stock) → IsTracking s.ages [] → IsRecent s.ages → s.ages.clock ≡ 0 → ((m : ℕ) → get_or s.ages.held.items m 0 ≡ 0) → s.live.items ≡ [] → s.placed.items ≡ []
     → IsKnown g (length s.ages.held.items) → length s.ages.held.items ≤ vec_capacity s.placed → IsStock g s []
-stock_first g s tracking clock none live_is placed known room = record {
+stock_first g s tracking recent clock none live_is placed known room = record {
   tracking = tracking;
+  recent = recent;
   within = record { clock = omega arith; held = λ m. let z = none m in omega arith };
   live_is = live_is;
   placed_is = ap (map seat) placed;

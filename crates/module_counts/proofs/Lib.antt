@@ -1,4 +1,5 @@
 pub mod Tracking
+pub mod Going
 pub mod Starting
 pub mod Storing
 pub mod Tidying

@@ -12,9 +12,11 @@ use Rattle.module_counts.specs.declared.stock.Live.{Live}
 use Rattle.module_counts.specs.declared.stock.Stock.{Stock}
 use Rattle.runtime_histories.specs.Deeds.{Act, act, opens, closes, rests, Deeds, Desc, Loaded, live, pair_live, Mark, uses, releases, marks, IsIn, IsLive}
 use Rattle.runtime_histories.specs.Residence.{resident}
-use Rattle.module_counts.specs.Tracking.{IsTracking, IsWithin, is_kept}
+use Rattle.module_counts.specs.declared.ages.Ages.{Ages}
+use Rattle.module_counts.specs.Tracking.{IsTracking, IsRecent, IsWithin, KeepsAll, is_kept}
+use Rattle.module_counts.proofs.Tracking.{is_kept-tracks}
 use Rattle.runtime_histories.specs.Places.{Placed, among, place_loads, place_deed, still, places}
-use Rattle.module_counts.specs.Stocks.{seat, seat_of, seated, Once, placed_modules, IsTidy}
+use Rattle.module_counts.specs.Stocks.{Seat, seat, seat_of, seated, Once, placed_modules, IsTidy}
 use Rattle.runtime_histories.specs.Entries.{loaded_of}
 use Rattle.runtime_histories.specs.Settings.{module_at, modules_of}
 use Rattle.runtime_histories.specs.Legal.{absent_among, loaded_modules}
@@ -25,7 +27,7 @@ use Rattle.runtime_histories.proofs.Basics.{In-append, In-filter}
 use Rattle.runtime_histories.proofs.Pinning.{places-snoc, absent_not_resident}
 use Rattle.runtime_histories.proofs.Legality.{sound_opens, sound_rests, sound_closes}
 use Rattle.module_counts.proofs.Living.{live_is_opens, live_rests, live_is_closes, marks_opens, marks_rests, marks_closes}
-use Rattle.module_counts.proofs.Tidying.{tidy_filter, tidy_loads, seats-loads, length-places_for, length-tidy, length-place_loads, kept_seats, AreNew}
+use Rattle.module_counts.proofs.Tidying.{tidy_filter, tidy_loads, seats-loads, length-places_for, length-tidy, length-place_loads, kept_all, kept_seats, AreNew}
 use Rattle.std.proofs.lemmas.List.{length-map}
 
 pub all_from_in : {A : Type 0} (P : A → Type 0) (xs : List A) → ((x : A) → IsIn x xs → P x) → AllByRecursion P xs
@@ -121,18 +123,19 @@ fresh_filter log (x ∷ xs) = go (resident (marks log) x.«module») refl (fresh
 
 -- what all three kinds of deeds share: the counters track the new marks, the places are those before with loads
 stock_after : (g : Shape) (s t : Stock) (log : Deeds) (e : Act) (mid : List Place) → IsStock g s log
-    → IsTracking t.ages (marks (log ++ e ∷ [])) → IsWithin t.ages (length (log ++ e ∷ []) * 2 ^ 64)
+    → IsTracking t.ages (marks (log ++ e ∷ [])) → IsRecent t.ages → IsWithin t.ages (length (log ++ e ∷ []) * 2 ^ 64)
     → t.live.items ≡ map shown (live (log ++ e ∷ []))
     → map seat mid ≡ map seat_of (place_deed s.pages e.deed (places s.pages log))
     → t.placed.items ≡ filter (λ (x : Place). is_kept t.ages x.«module») mid
     → IsTidy (length s.ages.held.items) s.pages (place_deed s.pages e.deed (places s.pages log))
     → IsSound g (log ++ e ∷ []) → length t.ages.held.items ≡ length s.ages.held.items → t.pages ≡ s.pages → vec_capacity s.placed ≤ vec_capacity t.placed
     → IsStock g t (log ++ e ∷ [])
-stock_after g s t log e mid h tracking within live_is seats kept tidy sound len pages room =
+stock_after g s t log e mid h tracking recent within live_is seats kept tidy sound len pages room =
     let log' = log ++ e ∷ [] in
     let at : places t.pages log' ≡ still log' (place_deed s.pages e.deed (places s.pages log)) = ap (λ (z : ℕ). places z log') pages ∙ places-snoc s.pages log e in
     record {
       tracking = tracking;
+      recent = recent;
       within = within;
       live_is = live_is;
       placed_is = ap (map seat) kept ∙ (kept_seats t.ages (marks log') mid (place_deed s.pages e.deed (places s.pages log)) tracking seats
@@ -156,16 +159,16 @@ length-snoc log e = length-append log (e ∷ [])
 
 -- An opening that was answered by a chain.
 pub stock_opens : (g : Shape) (s t : Stock) (log : Deeds) (c n : ℕ) (v : Success) (ps : List (List ℕ)) (mid : List Place) → IsStock g s log → CanOpen g s.pages log v ps
-    → ((ms : List Mark) → IsTracking s.ages ms → IsTracking t.ages (ms ++ cond (pair_live log v.pair) [] (map uses v.modules)))
+    → ((ms : List Mark) → IsTracking s.ages ms → IsTracking t.ages (ms ++ cond (pair_live log v.pair) [] (map uses v.modules))) → IsRecent t.ages
     → ((m : ℕ) → get_or t.ages.held.items m 0 ≤ get_or s.ages.held.items m 0 + 2 ^ 64) → t.ages.clock ≡ s.ages.clock → length t.ages.held.items ≡ length s.ages.held.items
     → n ≡ length log → t.live.items ≡ s.live.items ++ record { number = n; caller = c; generation = v.pair.generation; from = v.pair.from; to = v.pair.to } ∷ []
     → map seat mid ≡ map seat s.placed.items ++ seated (map (λ (l : Load). l.«module») v.loads) ps
     → t.placed.items ≡ filter (λ (x : Place). is_kept t.ages x.«module») mid → t.pages ≡ s.pages → vec_capacity s.placed ≤ vec_capacity t.placed
     → IsStock g t (log ++ act c (opens v.pair v.modules (map loaded_of v.loads)) ∷ [])
-stock_opens g s t log c n v ps mid h can tracks more clock len number live_is seats kept pages room =
+stock_opens g s t log c n v ps mid h can tracks recent more clock len number live_is seats kept pages room =
     let l = map loaded_of v.loads in let e : Act = act c (opens v.pair v.modules l) in
     stock_after g s t log e mid h
-    (subst (IsTracking t.ages) (sym (marks_opens log c v.pair v.modules l)) (tracks (marks log) h.tracking))
+    (subst (IsTracking t.ages) (sym (marks_opens log c v.pair v.modules l)) (tracks (marks log) h.tracking)) recent
     (record { clock = (let k = h.within.clock in let z = length-snoc log e in omega arith); held = λ m. let k = h.within.held m in let z = length-snoc log e in let y = more m in omega arith })
     (live_is ∙ (ap (λ (z : List Live). z ++ record { number = n; caller = c; generation = v.pair.generation; from = v.pair.from; to = v.pair.to } ∷ []) h.live_is ∙ sym (live_is_opens log h.sound.balanced c v.pair n v.modules l number)))
     (seats ∙ ((λ i. h.placed_is i ++ seated (sym (map_loaded v.loads) i) (can.places i)) ∙ sym (seats-loads s.pages l (places s.pages log))))
@@ -179,23 +182,51 @@ pub stock_rests : (g : Shape) (s t : Stock) (log : Deeds) (c : ℕ) → IsStock 
 stock_rests g s t log c h ages live_is kept pages room = let e : Act = act c rests in
     stock_after g s t log e s.placed.items h
     (subst (λ z. IsTracking z (marks (log ++ e ∷ []))) (sym ages) (subst (IsTracking s.ages) (sym (marks_rests log c)) h.tracking))
+    (subst IsRecent (sym ages) h.recent)
     (subst (λ z. IsWithin z (length (log ++ e ∷ []) * 2 ^ 64)) (sym ages) (record { clock = (let k = h.within.clock in let z = length-snoc log e in omega arith); held = λ m. let k = h.within.held m in let z = length-snoc log e in omega arith }))
     (live_is ∙ (h.live_is ∙ ap (map shown) (sym (live_rests log h.sound.balanced c))))
     h.placed_is kept h.tidy (sound_rests g log c h.sound) (ap (λ z. length z.held.items) ages) pages room
 
+-- A list that isn't said to have items has none.
+pub nothing_in : (xs : List Load) (none : Bool) → none ≡ eqb (length xs) 0 → not none ≡ false → xs ≡ []
+nothing_in [] none e n = refl
+nothing_in (x ∷ xs) true e n = absurd (true≢false (e ∙ ne_eqb (length (x ∷ xs)) 0 (λ z. absurd (omega arith))))
+nothing_in (x ∷ xs) false e n = absurd (true≢false n)
+
+-- What is placed is still kept by counters that keep what these ones keep.
+pub still_all : (g : Shape) (s : Stock) (log : Deeds) → IsStock g s log → (a : Ages) → KeepsAll s.ages a → (xs : List Place) → map seat xs ≡ map seat s.placed.items
+    → AllByRecursion (λ (x : Place). is_kept a x.«module» ≡ true) xs
+still_all g s log h a keep xs e = walk xs (places s.pages log) (e ∙ h.placed_is) h.fresh h.tidy.known
+  where
+    walk : (xs : List Place) (ys : List Placed) → map seat xs ≡ map seat_of ys → AllByRecursion (λ m. resident (marks log) m ≡ true) (placed_modules ys)
+        → AllByRecursion (λ m. m < length s.ages.held.items) (placed_modules ys) → AllByRecursion (λ (x : Place). is_kept a x.«module» ≡ true) xs
+    walk [] ys e f k = tt
+    walk (x ∷ xs) [] e f k = absurd (let l = ap length e in omega arith)
+    walk (x ∷ xs) (y ∷ ys) e f k =
+        let head : seat x ≡ seat_of y = cc in
+        let tail : map seat xs ≡ map seat_of ys = cc in
+        let m : x.«module» ≡ y.«module» = ap (λ (z : Seat). z.«module») head in
+        let old : is_kept s.ages y.«module» ≡ true = is_kept-tracks s.ages (marks log) y.«module» h.tracking k.0 ∙ f.0 in
+        (ap (is_kept a) m ∙ keep y.«module» old, walk xs ys tail f.1 k.1)
+
+-- A refused opening changes nothing.
+pub stock_rested : (g : Shape) (s : Stock) (log : Deeds) (c : ℕ) → IsStock g s log → IsStock g s (log ++ act c rests ∷ [])
+stock_rested g s log c h = stock_rests g s s log c h refl refl
+    (sym (kept_all (λ (x : Place). is_kept s.ages x.«module») s.placed.items (still_all g s log h s.ages (λ m z. z) s.placed.items refl))) refl (omega arith)
+
 -- A closing.
 pub stock_closes : (g : Shape) (s t : Stock) (log : Deeds) (c n : ℕ) (d : Desc) → IsStock g s log → (k : IsLive log c n) → d ≡ k.desc
-    → ((ms : List Mark) → IsTracking s.ages ms → IsTracking t.ages (ms ++ cond (pair_live (log ++ act c (closes n) ∷ []) d.pair) [] (map releases d.modules)))
+    → ((ms : List Mark) → IsTracking s.ages ms → IsTracking t.ages (ms ++ cond (pair_live (log ++ act c (closes n) ∷ []) d.pair) [] (map releases d.modules))) → IsRecent t.ages
     → ((m : ℕ) → get_or t.ages.held.items m 0 ≤ get_or s.ages.held.items m 0) → t.ages.clock ≤ s.ages.clock + 2 ^ 64 → length t.ages.held.items ≡ length s.ages.held.items
     → t.live.items ≡ filter (λ (x : Live). not (eqb x.number n)) s.live.items
     → t.placed.items ≡ filter (λ (x : Place). is_kept t.ages x.«module») s.placed.items → t.pages ≡ s.pages → vec_capacity s.placed ≤ vec_capacity t.placed
     → IsStock g t (log ++ act c (closes n) ∷ [])
-stock_closes g s t log c n d h k is tracks less clock len live_is kept pages room = let e : Act = act c (closes n) in
+stock_closes g s t log c n d h k is tracks recent less clock len live_is kept pages room = let e : Act = act c (closes n) in
     let mk : marks (log ++ e ∷ []) ≡ marks log ++ cond (pair_live (log ++ e ∷ []) d.pair) [] (map releases d.modules) =
     subst (λ (y : Desc). marks (log ++ e ∷ []) ≡ marks log ++ cond (pair_live (log ++ e ∷ []) y.pair) [] (map releases y.modules)) (sym is)
     (subst (λ (z : ℕ). marks (log ++ act c (closes z) ∷ []) ≡ marks log ++ cond (pair_live (log ++ act c (closes z) ∷ []) k.desc.pair) [] (map releases k.desc.modules)) k.number_is (marks_closes log h.sound.balanced c k.desc k.there)) in
     stock_after g s t log e s.placed.items h
-    (subst (IsTracking t.ages) (sym mk) (tracks (marks log) h.tracking))
+    (subst (IsTracking t.ages) (sym mk) (tracks (marks log) h.tracking)) recent
     (record { clock = (let q = h.within.clock in let z = length-snoc log e in omega arith); held = λ m. let q = h.within.held m in let z = length-snoc log e in let y = less m in omega arith })
     (live_is ∙ (ap (filter (λ (x : Live). not (eqb x.number n))) h.live_is ∙ sym (live_is_closes log c n)))
     h.placed_is kept h.tidy (sound_closes g log c n h.sound k) len pages room

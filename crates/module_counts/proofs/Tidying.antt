@@ -252,6 +252,11 @@ below_any n (x ∷ xs) h q e = dite (ℕ_discrete q x) (λ (z : q ≡ x). subst 
 pub length-tidy : (modules pages : ℕ) (xs : List Placed) → IsTidy modules pages xs → length (placed_modules xs) ≤ modules
 length-tidy modules pages xs h = length-le_from_distinct_below (placed_modules xs) modules (once_distinct (placed_modules xs) h.once) (below_any modules (placed_modules xs) h.known)
 
+-- A test that all pass leaves out none.
+pub kept_all : (p : Place → Bool) (xs : List Place) → AllByRecursion (λ (x : Place). p x ≡ true) xs → filter p xs ≡ xs
+kept_all p [] h = refl
+kept_all p (x ∷ xs) h = (λ i. cond (h.0 i) (x ∷ kept_all p xs h.1 i) (kept_all p xs h.1 i))
+
 -- What the counters keep is what is resident.
 pub kept_seats : (a : Ages) (ms : List Mark) (ps : List Place) (xs : List Placed) → IsTracking a ms → map seat ps ≡ map seat_of xs → AllByRecursion (λ m. m < length a.held.items) (placed_modules xs)
     → map seat (filter (λ (x : Place). is_kept a x.«module») ps) ≡ map seat_of (filter (λ (x : Placed). resident ms x.«module») xs)

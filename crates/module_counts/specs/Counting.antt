@@ -8,7 +8,7 @@ use Rattle.std.specs.List.{AllByRecursion}
 use Rattle.std.specs.Prelude.{true}
 use Rattle.runtime_histories.specs.Residence.{resident}
 use Rattle.runtime_histories.specs.Deeds.{Pair, Deeds, Desc, live, marks}
-use Rattle.module_counts.specs.Tracking.{IsTracking, IsWithin}
+use Rattle.module_counts.specs.Tracking.{IsTracking, IsRecent, IsWithin}
 use Rattle.runtime_histories.specs.Places.{places, free}
 use Rattle.runtime_histories.specs.declared.refusals.Refusal.{Refusal}
 use Rattle.runtime_histories.specs.declared.refusals.Refusal.TheVariants.{JournalFull, StoreFull, Memory}
@@ -40,6 +40,7 @@ IsKnown graph modules = (o m : ℕ) → module_at graph.edges o ≡ Some m → m
 -- The stock stands for deeds.
 pub record IsStock (graph : Shape) (s : Stock) (log : Deeds) : Type 0 where
   pub tracking : IsTracking s.ages (marks log)
+  pub recent : IsRecent s.ages
   pub within : IsWithin s.ages (length log * 2 ^ 64)
   pub live_is : s.live.items ≡ map shown (live log)
   pub placed_is : map seat s.placed.items ≡ map seat_of (places s.pages log)

@@ -192,6 +192,9 @@ impl Counts {
             × (need ≤ free self.now.pages (deeds self.now.journal)) × (length v.items ≡ need) × (need < 2 ^ 32))
             (RefusesPages self.now need) }
     {
+        if need == 0 {
+            return Ok(Vec::new(alloc));
+        }
         let free = self.free_pages();
         if need > free as u64 {
             return Err(Refusal::StoreFull { need, free });

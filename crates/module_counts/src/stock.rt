@@ -2,11 +2,10 @@
 ghost use Rattle.std.specs.Prelude.{◌≡◌, ℕ, ◌+◌, ◌-◌, ◌*◌, ◌<◌, ◌≤◌, ◌^◌, ◌==◌, List, [], ◌∷◌, ◌++◌, length, map, not, if◌then◌else◌, vec_len, vec_capacity, MatchOption, None, Some, IsSomeAnd, Bool, false};
 ghost use Rattle.std.specs.List.{list_any, filter};
 ghost use Rattle.std.proofs.Common.{get_or};
-ghost use Rattle.module_graph.specs.Graph.{Shape};
-ghost use Rattle.runtime_histories.specs.Deeds.{Deeds, Pair, same_pair, Mark, uses, releases, act, closes, rests, IsLive};
+ghost use Rattle.runtime_histories.specs.Deeds.{Deeds, Pair, same_pair, Mark, uses, releases, act, closes, IsLive};
 ghost use Rattle.runtime_histories.specs.Fair.{times};
 ghost use Rattle.runtime_histories.specs.Settings.{module_at, modules_of};
-ghost use Rattle.module_counts.specs.Tracking.{IsTracking};
+ghost use Rattle.module_counts.specs.Tracking.{IsTracking, Goes};
 ghost use Rattle.runtime_histories.specs.Entries.{deeds, deed_of};
 ghost use Rattle.module_counts.specs.Stocks.{lists};
 ghost use Rattle.module_counts.specs.Admitting.{success_of, CanOpen, CanTake, deed_by, IsOpening, AreStepped};
@@ -15,7 +14,7 @@ ghost use Rattle.module_counts.specs.Counting.{IsStock, IsKnown, pair_shown};
 ghost use Rattle.module_counts.specs.Successes.{IsSuccess};
 
 use crate::ages::Ages;
-use crate::store::{Place, keep_resident, place_all, push_within};
+use crate::store::{Place, give_up, place_all, push_within};
 use module_graph::Graph;
 use names_alias::Name;
 use runtime_histories::{Asked, Entry, Event, Load, Reply};
@@ -97,6 +96,7 @@ fn start_pair(ages: &mut Ages, graph: &Graph, is_live: bool, chain: &[u32])
     ensures stays { length ages.new.held.items ≡ length ages.old.held.items }
     ensures more { (m : ℕ) → get_or ages.new.held.items m 0 ≤ get_or ages.old.held.items m 0 + 2 ^ 64 }
     ensures clock { ages.new.clock ≡ ages.old.clock }
+    ensures goes { Goes false ages.old ages.new }
 {
     if is_live {
         return;
@@ -105,8 +105,8 @@ fn start_pair(ages: &mut Ages, graph: &Graph, is_live: bool, chain: &[u32])
     ages.start_all(graph, chain);
 }
 
-/// The releases of a closing, which leaves its pair live or not.
-fn stop_pair(ages: &mut Ages, graph: &Graph, is_live: bool, chain: &[u32])
+/// The releases of a closing, which leaves its pair live or not. Whether a module may be given up.
+fn stop_pair(ages: &mut Ages, graph: &Graph, is_live: bool, chain: &[u32]) -> bool
     requires known { IsKnown graph.now (length ages.old.held.items) }
     requires same { length ages.old.stamps.items ≡ length ages.old.held.items }
     requires enough { is_live ≡ false → (m : ℕ)
@@ -118,12 +118,13 @@ fn stop_pair(ages: &mut Ages, graph: &Graph, is_live: bool, chain: &[u32])
     ensures stays { length ages.new.held.items ≡ length ages.old.held.items }
     ensures less { (m : ℕ) → get_or ages.new.held.items m 0 ≤ get_or ages.old.held.items m 0 }
     ensures clock { ages.new.clock ≤ ages.old.clock + 2 ^ 64 }
+    ensures goes { Goes result ages.old ages.new }
 {
     if is_live {
-        return;
+        return false;
     }
     let _count = chain.len();
-    ages.stop_all(graph, chain);
+    ages.stop_all(graph, chain)
 }
 
 impl Stock {
@@ -151,6 +152,7 @@ impl Stock {
     {
         let is_live = is_pair_live(self.live.as_slice(), found.from, found.to);
         start_pair(&mut self.ages, graph, is_live, found.chain);
+        let none = found.loads.is_empty();
         place_all(&mut self.placed, found.loads, places);
         let number = journal.len() as u64;
         push_within(
@@ -163,26 +165,14 @@ impl Stock {
                 to: found.to.copied(),
             },
         );
-        keep_resident(&mut self.placed, &self.ages);
+        give_up(&mut self.placed, &self.ages, !none);
     }
 }
 
 impl Stock {
-    /// A refused opening.
-    fn rest(&mut self)
-        requires same { length self.old.ages.stamps.items ≡ length self.old.ages.held.items }
-        requires early { self.old.ages.clock + 2 < 2 ^ 128 }
-        ensures stock { (graph : Shape) (log : Deeds) (caller : ℕ) → IsStock graph self.old log
-            → IsStock graph self.new (log ++ act caller rests ∷ []) }
-        ensures pages { self.new.pages ≡ self.old.pages }
-        ensures live { self.new.live ≡ self.old.live }
-        ensures modules { length self.new.ages.held.items ≡ length self.old.ages.held.items }
-    {
-        keep_resident(&mut self.placed, &self.ages);
-    }
-
-    /// The releases of the closing of an opening, if it leaves its pair none.
-    fn stop(&mut self, graph: &Graph, event: &Event)
+    /// The releases of the closing of an opening, if it leaves its pair none. Whether a module may be
+    /// given up.
+    fn stop(&mut self, graph: &Graph, event: &Event) -> bool
         requires known { IsKnown graph.now (length self.old.ages.held.items) }
         requires same { length self.old.ages.stamps.items ≡ length self.old.ages.held.items }
         requires enough { (v : values.Success) → success_of event.now ≡ Some v
@@ -199,13 +189,14 @@ impl Stock {
         ensures clock { self.new.ages.clock ≤ self.old.ages.clock + 2 ^ 64 }
         ensures rest { (self.new.live ≡ self.old.live) × (self.new.placed ≡ self.old.placed)
             × (self.new.pages ≡ self.old.pages) }
+        ensures goes { Goes result self.old.ages self.new.ages }
     {
         match success_in(event) {
             Some(found) => {
                 let is_live = is_pair_live(self.live.as_slice(), found.from, found.to);
-                stop_pair(&mut self.ages, graph, is_live, found.chain);
+                stop_pair(&mut self.ages, graph, is_live, found.chain)
             }
-            None => {}
+            None => false,
         }
     }
 
@@ -232,7 +223,7 @@ impl Stock {
     {
         match success_in(&entry.event) {
             Some(found) => self.open(graph, journal, entry.caller, found, places),
-            None => self.rest(),
+            None => {}
         }
     }
 
@@ -250,7 +241,7 @@ impl Stock {
         ensures modules { length self.new.ages.held.items ≡ length self.old.ages.held.items }
     {
         drop_live(&mut self.live, number);
-        self.stop(graph, &journal[number as usize].event);
-        keep_resident(&mut self.placed, &self.ages);
+        let gone = self.stop(graph, &journal[number as usize].event);
+        give_up(&mut self.placed, &self.ages, gone);
     }
 }

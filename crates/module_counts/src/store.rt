@@ -1,6 +1,6 @@
 //! The pages of resident modules.
-ghost use Rattle.std.specs.Prelude.{◌≡◌, ℕ, ◌+◌, ◌-◌, ◌<◌, ◌≤◌, ◌^◌, ◌==◌, List, [], ◌∷◌, ◌++◌, length, map, min, take, replicate, vec_len, vec_capacity, IfOk, OnOk, MatchOption, None, Some, false};
-ghost use Rattle.std.specs.List.{filter, find};
+ghost use Rattle.std.specs.Prelude.{◌≡◌, ℕ, ◌+◌, ◌-◌, ◌<◌, ◌≤◌, ◌^◌, ◌==◌, List, [], ◌∷◌, ◌++◌, length, map, min, take, replicate, vec_len, vec_capacity, IfOk, OnOk, MatchOption, None, Some, true, false};
+ghost use Rattle.std.specs.List.{AllByRecursion, filter, find};
 ghost use Rattle.std.proofs.Common.{get_or};
 ghost use Rattle.module_counts.specs.Tracking.{is_kept};
 ghost use Rattle.runtime_histories.specs.Places.{lowest};
@@ -135,13 +135,26 @@ pub fn place_of(placed: &[Place], module: u32) -> Option<&Place>
 }
 
 /// Leaves out the modules that aren't resident.
-pub fn keep_resident(placed: &mut Vec<Place>, ages: &Ages)
+fn keep_resident(placed: &mut Vec<Place>, ages: &Ages)
     requires same { length ages.now.stamps.items ≡ length ages.now.held.items }
     requires early { ages.now.clock + 2 < 2 ^ 128 }
     ensures items { placed.new.items ≡ filter (λ x. is_kept ages.now x.«module») placed.old.items }
     ensures room { vec_capacity placed.new ≡ vec_capacity placed.old }
 {
     placed.retain(|place| ages.keeps(place.module));
+}
+
+/// Leaves out the modules that aren't resident, if there may be one.
+pub fn give_up(placed: &mut Vec<Place>, ages: &Ages, gone: bool)
+    requires same { length ages.now.stamps.items ≡ length ages.now.held.items }
+    requires early { ages.now.clock + 2 < 2 ^ 128 }
+    requires none { gone ≡ false → AllByRecursion (λ x. is_kept ages.now x.«module» ≡ true) placed.old.items }
+    ensures items { placed.new.items ≡ filter (λ x. is_kept ages.now x.«module») placed.old.items }
+    ensures room { vec_capacity placed.new ≡ vec_capacity placed.old }
+{
+    if gone {
+        keep_resident(placed, ages);
+    }
 }
 
 /// Gives a module its pages, if there are any for it.

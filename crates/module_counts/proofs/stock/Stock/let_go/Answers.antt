@@ -10,12 +10,13 @@ use Rattle.std.specs.declared.vec.Vec.{Vec}
 use Rattle.std.specs.declared.alloc.Global.{Global}
 use Rattle.module_counts.specs.declared.store.Place.{Place}
 use Rattle.module_counts.specs.Tracking.{IsTracking, is_kept}
+use Rattle.module_counts.specs.Stocks.{seat}
 use Rattle.module_counts.specs.Admitting.{Success, success_of}
 use Rattle.module_counts.specs.Counting.{pair_shown, shown}
 use Rattle.runtime_histories.proofs.Basics.{number_range}
 use Rattle.runtime_histories.proofs.Legality.{length-deeds}
 use Rattle.module_counts.proofs.Living.{any_live, live_is_closes}
-use Rattle.module_counts.proofs.Stocking.{in_modules, stock_closes}
+use Rattle.module_counts.proofs.Stocking.{in_modules, still_all, stock_closes}
 use Rattle.module_counts.proofs.Entering.{entry_of, close_enough, one_less}
 use Rattle.module_counts.proofs.stock.Stock.let_go.Goals as goal
 
@@ -38,14 +39,20 @@ bounds-journal-number c = place_in c.args.journal.now c.args.caller c.args.numbe
 pub offset_bounds-journal-number : goal.offset_bounds-journal-number
 offset_bounds-journal-number c = let h = place_in c.args.journal.now c.args.caller c.args.number c.requires.live in let f = c.requires.few in omega arith
 
-pub stop-requires-clause-enough : goal.stop-requires-clause-enough
-stop-requires-clause-enough c = λ v e dead m.
+pub stop-gone-requires-clause-enough : goal.stop-gone-requires-clause-enough
+stop-gone-requires-clause-enough c = λ v e dead m.
     let js = c.args.journal.now in let g = c.args.graph.now in let k = c.requires.live in
     let en = entry_of g k.desc js 0 c.args.number c.index-journal-number.result c.requires.steps k.there (let n = k.number_is in omega arith) in
     let same = some_same (success_of (get_or js c.args.number c.index-journal-number.result).event) en.value v en.is e in
     let is : modules_of g.edges v.ordinals ≡ k.desc.modules = ap (λ (z : Success). modules_of g.edges z.ordinals) same ∙ en.modules_is in
     close_enough g c.args.self.now (deeds js) c.args.caller c.args.number c.requires.stock k (modules_of g.edges v.ordinals) is
     (λ x z. in_modules g.edges (length c.args.self.now.ages.held.items) c.requires.stock.known v.ordinals x z) m
+
+pub give_up-requires-clause-none : goal.give_up-requires-clause-none
+give_up-requires-clause-none c = λ e.
+    let h = c.requires.stock in
+    still_all c.args.graph.now c.args.self.now (deeds c.args.journal.now) h c.stop-gone.new.self.ages ((c.stop-gone.ensures.goes h.recent).1 e) _
+    (ap (λ (z : Vec Place Global). map seat z.items) c.stop-gone.ensures.rest.1)
 
 pub returns-clause-stock : goal.returns-clause-stock
 returns-clause-stock c =
@@ -56,16 +63,17 @@ returns-clause-stock c =
     let lv : c.drop_live.new.live.items ≡ map shown (live log') = c.drop_live.ensures.items ∙ (ap (filter (λ (x : Live). not (eqb x.number n))) h.live_is ∙ sym (live_is_closes log c.args.caller n)) in
     let now : list_any (λ (x : Live). same_pair (pair_shown x) en.value.pair) c.drop_live.new.live.items ≡ pair_live log' k.desc.pair =
     ap (list_any (λ (x : Live). same_pair (pair_shown x) en.value.pair)) lv ∙ (any_live log' en.value.pair ∙ ap (pair_live log') en.pair_is) in
-    let rest = c.stop.ensures.rest in
+    let rest = c.stop-gone.ensures.rest in
     stock_closes g s _ log c.args.caller n k.desc h k refl
-    (λ ms t. subst (λ (b : Bool). IsTracking c.stop.new.self.ages (ms ++ cond b [] (map releases k.desc.modules))) now
-    (subst (λ (z : List ℕ). IsTracking c.stop.new.self.ages (ms ++ cond (list_any (λ (x : Live). same_pair (pair_shown x) en.value.pair) c.drop_live.new.live.items) [] (map releases z))) en.modules_is
-    (c.stop.ensures.tracks en.value en.is ms t)))
-    c.stop.ensures.less c.stop.ensures.clock c.stop.ensures.stays
+    (λ ms t. subst (λ (b : Bool). IsTracking c.stop-gone.new.self.ages (ms ++ cond b [] (map releases k.desc.modules))) now
+    (subst (λ (z : List ℕ). IsTracking c.stop-gone.new.self.ages (ms ++ cond (list_any (λ (x : Live). same_pair (pair_shown x) en.value.pair) c.drop_live.new.live.items) [] (map releases z))) en.modules_is
+    (c.stop-gone.ensures.tracks en.value en.is ms t)))
+    (c.stop-gone.ensures.goes h.recent).0
+    c.stop-gone.ensures.less c.stop-gone.ensures.clock c.stop-gone.ensures.stays
     (ap (λ z. z.items) rest.0 ∙ c.drop_live.ensures.items)
-    (c.keep_resident.ensures.items ∙ ap (λ (z : Vec Place Global). filter (λ (x : Place). is_kept c.stop.new.self.ages x.«module») z.items) rest.1)
+    (c.give_up.ensures.items ∙ ap (λ (z : Vec Place Global). filter (λ (x : Place). is_kept c.stop-gone.new.self.ages x.«module») z.items) rest.1)
     rest.2
-    (let a = c.keep_resident.ensures.room in grind (arith, common_steps))
+    (let a = c.give_up.ensures.room in grind (arith, common_steps))
 
 pub returns-clause-len : goal.returns-clause-len
 returns-clause-len c =
@@ -73,6 +81,6 @@ returns-clause-len c =
     let a = one_less log c.args.caller n c.requires.live in
     let b : length c.drop_live.new.live.items ≡ length (filter (λ (x : Live). not (eqb x.number n)) (map shown (live log))) = ap length (c.drop_live.ensures.items ∙ ap (filter (λ (x : Live). not (eqb x.number n))) h.live_is) in
     let d : length c.args.self.now.live.items ≡ length (map shown (live log)) = ap length h.live_is in
-    let r = c.stop.ensures.rest.0 in
-    let e : length c.stop.new.self.live.items ≡ length c.drop_live.new.live.items = ap (λ z. length z.items) r in
+    let r = c.stop-gone.ensures.rest.0 in
+    let e : length c.stop-gone.new.self.live.items ≡ length c.drop_live.new.live.items = ap (λ z. length z.items) r in
     grind (arith, common_steps)

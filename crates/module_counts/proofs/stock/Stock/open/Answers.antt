@@ -1,4 +1,4 @@
-use Rattle.std.proofs.Common.{◌≡◌, ◌++◌, ◌∷◌, [], Bool, List, ℕ, cond, length, map, sym, subst, ap, ◌∙◌, refl, arith}
+use Rattle.std.proofs.Common.{◌≡◌, ◌++◌, ◌∷◌, [], Bool, List, ℕ, cond, length, map, sym, subst, ap, ◌∙◌, refl, arith, append-nil}
 use Rattle.std.proofs.lemmas.Grind.{common_steps}
 use Rattle.std.proofs.lemmas.List.{length-map}
 use Rattle.std.specs.List.{list_any}
@@ -14,7 +14,7 @@ use Rattle.runtime_histories.specs.Entries.{deeds}
 use Rattle.module_counts.specs.Counting.{pair_shown}
 use Rattle.runtime_histories.proofs.Legality.{length-deeds}
 use Rattle.module_counts.proofs.Living.{any_live}
-use Rattle.module_counts.proofs.Stocking.{open_room, open_places, stock_opens}
+use Rattle.module_counts.proofs.Stocking.{open_room, open_places, nothing_in, still_all, stock_opens}
 use Rattle.module_counts.proofs.stock.Stock.open.Goals as goal
 
 pub place_all-requires-clause-same : goal.place_all-requires-clause-same
@@ -32,6 +32,14 @@ place_all-requires-clause-room c =
     let d : length v.loads ≡ length c.args.found.loads.now = ap length can.1.loads in
     grind (arith, common_steps)
 
+pub give_up-requires-clause-none : goal.give_up-requires-clause-none
+give_up-requires-clause-none c = λ e.
+    let s = c.args.self.now in
+    let empty : c.args.found.loads.now ≡ [] = nothing_in c.args.found.loads.now _ c.is_empty-none.ensures e in
+    let seats : map seat c.place_all.new.placed.items ≡ map seat s.placed.items = c.place_all.ensures.seats
+    ∙ (ap (λ (z : List Load). map seat s.placed.items ++ seated (map (λ (l : Load). l.«module») z) (lists c.args.places.items)) empty ∙ append-nil (map seat s.placed.items)) in
+    still_all c.args.graph.now s (deeds c.args.journal.now) c.requires.stock c.start_pair.new.ages ((c.start_pair.ensures.goes c.requires.stock.recent).1 refl) c.place_all.new.placed.items seats
+
 pub returns-clause-stock : goal.returns-clause-stock
 returns-clause-stock c = λ v is can.
     let g = c.args.graph.now in let s = c.args.self.now in let log = deeds c.args.journal.now in let h = c.requires.stock in
@@ -44,9 +52,10 @@ returns-clause-stock c = λ v is can.
     stock_opens g s _ log c.args.caller (length c.args.journal.now) v (lists c.args.places.items) c.place_all.new.placed.items h can
     (λ ks t. subst (λ (b : Bool). IsTracking c.start_pair.new.ages (ks ++ cond b [] (map uses v.modules))) live
     (subst (λ (z : List ℕ). IsTracking c.start_pair.new.ages (ks ++ cond c.is_pair_live-is_live.result [] (map uses z))) ms (c.start_pair.ensures.tracks ks t)))
+    (c.start_pair.ensures.goes h.recent).0
     c.start_pair.ensures.more c.start_pair.ensures.clock c.start_pair.ensures.stays
     number
     (c.push_within.ensures.items ∙ (λ i. s.live.items ++ record { number = length c.args.journal.now; caller = c.args.caller; generation = sym is.generation i; from = (c.copied.ensures ∙ sym is.from) i; to = (c.copied-2.ensures ∙ sym is.to) i } ∷ []))
     (c.place_all.ensures.seats ∙ ap (λ (z : List Load). map seat s.placed.items ++ seated (map (λ (l : Load). l.«module») z) (lists c.args.places.items)) (sym is.loads))
-    c.keep_resident.ensures.items refl
-    (let a = c.place_all.ensures.room in let b = c.keep_resident.ensures.room in omega arith)
+    c.give_up.ensures.items refl
+    (let a = c.place_all.ensures.room in let b = c.give_up.ensures.room in omega arith)

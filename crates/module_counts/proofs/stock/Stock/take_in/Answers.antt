@@ -6,6 +6,7 @@ use Rattle.module_counts.specs.Admitting.{Success, success_of, deed_by, CanOpen,
 use Rattle.module_counts.specs.Successes.{IsSuccess}
 use Rattle.module_counts.specs.Counting.{IsStock}
 use Rattle.module_counts.proofs.Entering.{deed_is, some_is}
+use Rattle.module_counts.proofs.Stocking.{stock_rested}
 use Rattle.module_counts.proofs.stock.Stock.take_in.Goals as goal
 
 pub returns-in-Some-clause-stock : goal.returns-in-Some-clause-stock
@@ -18,4 +19,4 @@ returns-in-Some-clause-stock c =
 pub returns-in-None-clause-stock : goal.returns-in-None-clause-stock
 returns-in-None-clause-stock c =
     let g = c.args.graph.now in let log = deeds c.args.journal.now in
-    subst (λ (d : Deed). IsStock g c.rest.new.self (log ++ act c.args.entry.now.caller d ∷ [])) (sym (deed_is c.args.entry.now.event c.requires.opening ∙ ap deed_by c.in-None.ensures)) (c.rest.ensures.stock g log c.args.entry.now.caller c.requires.stock)
+    subst (λ (d : Deed). IsStock g c.args.self.now (log ++ act c.args.entry.now.caller d ∷ [])) (sym (deed_is c.args.entry.now.event c.requires.opening ∙ ap deed_by c.in-None.ensures)) (stock_rested g c.args.self.now log c.args.entry.now.caller c.requires.stock)
