@@ -67,12 +67,12 @@ pub fn answers_of<R: Wait>(rt: &R, alloc: Global, script: Script) -> Result<Stri
     } = script;
     ensure!(pages <= 65_536, "too many pages");
     ensure!(limit <= 16_777_216, "too many entries");
+    let mut text = String::new(alloc);
+    write!(text, "runtime {pages} {limit}\n")?;
     let library = ShelfLibrary::new(alloc, charmaps, failing);
     let Some((gconv, mut lead)) = start(alloc, library, pages, limit) else {
         bail!("there is no runtime");
     };
-    let mut text = String::new(alloc);
-    write!(text, "runtime {pages} {limit}\n")?;
     let played = play(rt, alloc, &gconv, &mut lead, acts.as_slice(), &mut text);
     let closed = finish(gconv, lead);
     played?;
