@@ -1,11 +1,11 @@
 -- Points below 80 hex in tables whose lower half is ASCII, and in ISO-2022-JP in its initial state.
-use Rattle.std.proofs.Common.{◌≡◌, ◌≢◌, ℕ, ◌<◌, ◌≤◌, Bool, true, false, cond, List, [], ◌∷◌, ◌++◌, length, take, Option, Some, None, refl, ap, sym, ◌∙◌, subst, arith, inl, inr}
+use Rattle.std.proofs.Common.{◌≡◌, ◌≢◌, ℕ, ◌<◌, ◌≤◌, true, false, List, [], ◌∷◌, ◌++◌, length, take, Option, Some, None, refl, ap, sym, ◌∙◌, subst, arith, inl, inr}
 use Rattle.std.specs.Prelude.{unwrap_or, IsSome, MatchOption, nat_le, nat_eq}
-use Rattle.std.specs.List.{AllByRecursion, flat_map, filter_map, zip}
+use Rattle.std.specs.List.{AllByRecursion}
 use Rattle.std.proofs.lemmas.Bool.Decides.{nat_tests}
 use Rattle.std.proofs.lemmas.Bool.{cases_lt}
 use Rattle.ascii_lanes.specs.Plain.{ArePlain}
-use Rattle.code_pairs.specs.Tables.{Table, code_of, IsCode, IsWellFormed}
+use Rattle.code_pairs.specs.Tables.{Table, IsCode, IsWellFormed}
 use Rattle.code_table.specs.Ascii.{IsAscii}
 use Rattle.step_unicode.specs.declared.set.State.{State}
 use Rattle.step_unicode.specs.declared.set.State.TheVariants.{Plain}
@@ -16,7 +16,7 @@ use Rattle.step_table.specs.Many.{ArePut}
 use Rattle.step_table.specs.Eight.{AreCodes, AreEight}
 use Rattle.step_table.specs.declared.eight.Eight.{Eight}
 use Rattle.step_table.specs.Sets.{IsTableUnit, IsInTable, spelled, table_spelling}
-use Rattle.step_iso2022jp.specs.Sets.{IsJpUnit, IsPointUnit, IsInJp, Written, written_of, written, jp_spelling, jp_bytes, jp_after}
+use Rattle.step_iso2022jp.specs.Sets.{IsJpUnit, IsPointUnit, IsInJp, Written, written_of, jp_spelling, jp_bytes, jp_after}
 use Rattle.chain_steps.specs.Appended.{IsAppended}
 use Rattle.chain_steps.specs.Blocks.{IsBlock, IsBlockPut}
 use Rattle.chain_steps.proofs.PlainSets.{Low, block_of, spelled_same, bytes_alone, all_have}
@@ -65,9 +65,9 @@ eight_block table well points s x r eight = record {
 }
 
 -- points that were written in a table at once, or not
-pub all_put : (table : Table) (t : State) (q : List ℕ) (at : ℕ) (old new : List ℕ) (r : Option ℕ) → MatchOption r (new ≡ old) (ArePut table q at old new) →
+pub all_put : (table : Table) (t : State) (q : List ℕ) (at : ℕ) (old new : List ℕ) (r : Option ℕ) → MatchOption r (¬ (AllByRecursion (IsInTable table) q) × (new ≡ old)) (ArePut table q at old new) →
     MatchOption r (new ≡ old) (λ n. IsBlockPut (IsInTable table) (table_spelling table) t q at old new n)
-all_put table t q at old new None same = same
+all_put table t q at old new None lacks = lacks.1
 all_put table t q at old new (Some n) put = record {
   has = put.has;
   put = record { within = put.within; front = put.front; rest = put.rest };

@@ -110,14 +110,15 @@ pub trait Charset {
     /// The units of eight points below 10000 hex, none a surrogate, at the front of the input, where the
     /// set can tell them at once.
     #[inline(always)]
-    fn wide<T: Lookup>(&self, tables: &T, state: State, input: &[u8]) -> Option<WideBlock>
-        requires ready { T.ready tables.now }
-        requires range { IsInRange (T.tables tables.now) (set self.now) }
+    fn wide<T: Lookup>(&self, tables: &mut T, state: State, input: &[u8]) -> Option<WideBlock>
+        requires ready { T.ready tables.old }
+        requires range { IsInRange (T.tables tables.old) (set self.now) }
         requires state { IsStateIn (set self.now) state }
         requires some { BLOCK ≤ length input.now }
-        ensures { IfSome result (λ b.
-            IsBlock AreWide (IsUnitOf (T.tables tables.now) (set self.now)) state
+        ensures block { IfSome result (λ b.
+            IsBlock AreWide (IsUnitOf (T.tables tables.old) (set self.now)) state
             input.now b.wide.points b.used) }
+        ensures back { HandsBack T.tables T.ready T.kept tables.old tables.new }
     {
         None
     }
@@ -127,20 +128,21 @@ pub trait Charset {
     #[inline(always)]
     fn put_wide<T: Lookup>(
         &self,
-        tables: &T,
+        tables: &mut T,
         state: State,
         wide: Wide,
         output: &mut [u8],
         at: usize,
     ) -> Option<usize>
-        requires ready { T.ready tables.now }
-        requires range { IsInRange (T.tables tables.now) (set self.now) }
+        requires ready { T.ready tables.old }
+        requires range { IsInRange (T.tables tables.old) (set self.now) }
         requires state { IsStateIn (set self.now) state }
         requires wide { AreWide wide.points }
         requires room { at + BLOCK ≤ length output.old }
-        ensures { let ts = T.tables tables.now in MatchOption result (output.new ≡ output.old)
+        ensures put { let ts = T.tables tables.old in MatchOption result (output.new ≡ output.old)
             (λ n. IsBlockPut (IsSpellableIn ts (set self.now)) (spelling_in ts (set self.now))
             state wide.points at output.old output.new n) }
+        ensures back { HandsBack T.tables T.ready T.kept tables.old tables.new }
     {
         None
     }

@@ -71,7 +71,7 @@ impl Charset for Utf16 {
     }
 
     #[inline(always)]
-    fn wide<T: Lookup>(&self, _tables: &T, state: State, input: &[u8]) -> Option<WideBlock> {
+    fn wide<T: Lookup>(&self, _tables: &mut T, state: State, input: &[u8]) -> Option<WideBlock> {
         match state {
             State::Little => {
                 let wide = wide_lanes::load_low_first(input)?;
@@ -88,7 +88,7 @@ impl Charset for Utf16 {
     #[inline(always)]
     fn put_wide<T: Lookup>(
         &self,
-        _tables: &T,
+        _tables: &mut T,
         state: State,
         wide: Wide,
         output: &mut [u8],
@@ -168,7 +168,7 @@ impl Charset for Utf16Le {
     }
 
     #[inline(always)]
-    fn wide<T: Lookup>(&self, _tables: &T, _state: State, input: &[u8]) -> Option<WideBlock> {
+    fn wide<T: Lookup>(&self, _tables: &mut T, _state: State, input: &[u8]) -> Option<WideBlock> {
         let wide = wide_lanes::load_low_first(input)?;
         Some(WideBlock { wide, used: 16 })
     }
@@ -176,7 +176,7 @@ impl Charset for Utf16Le {
     #[inline(always)]
     fn put_wide<T: Lookup>(
         &self,
-        _tables: &T,
+        _tables: &mut T,
         _state: State,
         wide: Wide,
         output: &mut [u8],
@@ -243,7 +243,7 @@ impl Charset for Utf16Be {
     }
 
     #[inline(always)]
-    fn wide<T: Lookup>(&self, _tables: &T, _state: State, input: &[u8]) -> Option<WideBlock> {
+    fn wide<T: Lookup>(&self, _tables: &mut T, _state: State, input: &[u8]) -> Option<WideBlock> {
         let wide = wide_lanes::load_high_first(input)?;
         Some(WideBlock { wide, used: 16 })
     }
@@ -251,7 +251,7 @@ impl Charset for Utf16Be {
     #[inline(always)]
     fn put_wide<T: Lookup>(
         &self,
-        _tables: &T,
+        _tables: &mut T,
         _state: State,
         wide: Wide,
         output: &mut [u8],

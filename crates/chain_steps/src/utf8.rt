@@ -53,7 +53,7 @@ impl Charset for Utf8 {
     }
 
     #[inline(always)]
-    fn wide<T: Lookup>(&self, _tables: &T, _state: State, input: &[u8]) -> Option<WideBlock> {
+    fn wide<T: Lookup>(&self, _tables: &mut T, _state: State, input: &[u8]) -> Option<WideBlock> {
         let read = load_utf8(input)?;
         Some(WideBlock {
             wide: read.wide,
@@ -64,7 +64,7 @@ impl Charset for Utf8 {
     #[inline(always)]
     fn put_wide<T: Lookup>(
         &self,
-        _tables: &T,
+        _tables: &mut T,
         _state: State,
         wide: Wide,
         output: &mut [u8],

@@ -6,7 +6,7 @@ ghost use Rattle.code_pairs.specs.Tables.{IsWellFormed};
 ghost use Rattle.code_table.specs.WellFormed.{AreWellFormed};
 
 use code_pairs::Code;
-use code_table::{CodeTable, Look, Lookup, One};
+use code_table::{CodeTable, Look, Lookup};
 use runtime_histories::ModuleTables;
 use std::alloc::{AllocError, Global};
 use std::marker::Model;
@@ -167,15 +167,5 @@ impl Lookup for SharedTables {
     #[inline(always)]
     fn is_ascii(&self, table: u32) -> bool {
         self.list[table as usize].is_ascii()
-    }
-
-    #[inline(always)]
-    fn code_at(&self, table: u32, bytes: &[u8], at: usize) -> Option<One> {
-        self.list[table as usize].code_at(bytes, at)
-    }
-
-    #[inline(always)]
-    fn code_for(&self, table: u32, point: u16) -> Option<Code> {
-        self.list[table as usize].code_for(point)
     }
 }

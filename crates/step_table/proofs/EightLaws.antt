@@ -2,9 +2,27 @@
 use Rattle.std.proofs.Common.{◌≡◌, ◌+◌, ◌<◌, ◌≤◌, ℕ, List, [], ◌∷◌, ◌++◌, length, take, drop, refl, sym, ap, ◌∙◌, subst, arith, append_assoc, append-nil}
 use Rattle.std.specs.Prelude.{slice_set}
 use Rattle.std.proofs.Math.Seq.{take-add}
-use Rattle.std.proofs.lemmas.List.{take_more_set}
-use Rattle.code_pairs.specs.Tables.{Table, IsCode}
-use Rattle.step_table.specs.Eight.{AreCodes}
+use Rattle.std.proofs.lemmas.List.{take_more_set, length-take-le, take-take}
+use Rattle.code_pairs.specs.Tables.{Table, IsCode, IsWellFormed}
+use Rattle.code_table.specs.Looks.{look_of, IsLook}
+use Rattle.code_table.specs.declared.lookup.Look.TheVariants.{Point}
+use Rattle.step_table.specs.Eight.{IsOneAt, AreCodes}
+
+-- what a look-up in four bytes tells of the code there
+pub one_is : (table : Table) → IsWellFormed table → (bytes four : List ℕ) (at point used : ℕ) → four ≡ take 4 (drop at bytes) →
+    IsLook table four (look_of table four) → Point point used ≡ look_of table four → point < 0x10000 →
+    IsOneAt table bytes at (record { point = point; used = used })
+one_is table well bytes four at point used is tells e small =
+    let look : (used ≤ length four) × IsCode table (take used four) point = subst (IsLook table four) (sym e) tells in
+    let form = well.forms (take used four) point look.1 in
+    let long : length (take used four) ≡ used = length-take-le used four look.0 in
+    let few : used ≤ 4 = omega (arith, form.few, long) in
+    record {
+      some = omega (arith, form.some, long);
+      few = few;
+      code = subst (λ b. IsCode table b point) (ap (take used) is ∙ take-take used 4 (drop at bytes) few) look.1;
+      small = small;
+    }
 
 -- one code more.
 pub codes_more : (table : Table) (ps : List ℕ) (bytes code : List ℕ) (p : ℕ) → AreCodes table ps bytes → IsCode table code p →

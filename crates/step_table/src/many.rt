@@ -1,33 +1,39 @@
-//! Several points written at once.
+//! Eight points written at once.
 
-ghost use Rattle.std.specs.Prelude.{◌≡◌, ℕ, List, ◌+◌, ◌*◌, ◌<◌, ◌≤◌, ◌++◌, length, take, drop, map, Some, IfSome, MatchOption};
-ghost use Rattle.std.specs.List.{flat_map};
-ghost use Rattle.code_pairs.specs.Tables.{table_at, code_of};
+ghost use Rattle.std.specs.Prelude.{◌≡◌, ℕ, List, ◌+◌, ◌*◌, ◌<◌, ◌≤◌, ◌++◌, length, take, drop, IfSome, MatchOption};
+ghost use Rattle.std.specs.List.{AllByRecursion, flat_map};
+ghost use Rattle.code_pairs.specs.Tables.{table_at};
+ghost use Rattle.code_table.specs.HandsBack.{HandsBack};
 ghost use Rattle.step_table.specs.Many.{AreCodesOf, ArePut};
+ghost use Rattle.step_table.specs.Sets.{IsInTable};
 
 use crate::put::put;
 use code_pairs::Code;
-use code_table::Lookup;
+use code_table::{Lookup, hand_back_twice};
 
-/// Codes of up to sixteen points.
+/// The codes of eight points.
 #[derive(Clone, Copy)]
 struct Codes {
-    list: [Code; 16],
+    list: [Code; 8],
 }
 
-/// The codes of some points, where each can be told at once.
+/// The codes of eight points; `None` exactly where the table lacks one of them.
 #[inline(always)]
-fn codes_for<T: Lookup>(tables: &T, table: u32, points: &[u16]) -> Option<Codes>
-    requires within { table < length (T.tables tables.now) }
-    requires few { length points.now ≤ 16 }
-    ensures long { IfSome result (λ c. length c.list ≡ 16) }
-    ensures codes { IfSome result (λ c.
-        AreCodesOf (table_at (T.tables tables.now) table) points.now (take (length points.now) c.list)) }
+fn codes_for<T: Lookup>(tables: &mut T, table: u32, points: &[u16]) -> Option<Codes>
+    requires ready { T.ready tables.old }
+    requires within { table < length (T.tables tables.old) }
+    requires eight { length points.now ≡ 8 }
+    ensures long { IfSome result (λ c. length c.list ≡ 8) }
+    ensures codes { let t = table_at (T.tables tables.old) table in
+        MatchOption result (¬ (AllByRecursion (IsInTable t) points.now))
+        (λ c. AreCodesOf t points.now c.list) }
+    ensures back { HandsBack T.tables T.ready T.kept tables.old tables.new }
 {
-    let mut list = [Code::new(1, 0); 16];
+    hand_back_twice::<T>();
+    let mut list = [Code::new(1, 0); 8];
     let mut i = 0;
-    while i < points.len() {
-        let code = tables.code_for(table, points[i])?;
+    while i < 8 {
+        let code = tables.bytes(table, points[i] as u32)?;
         list[i] = code;
         i += 1;
     }
@@ -51,22 +57,24 @@ fn put_codes(codes: &[Code], output: &mut [u8], at: usize) -> usize
     end - at
 }
 
-/// Writes up to sixteen points behind the first `at` bytes of `output`, where the code of each can be told
-/// at once.
+/// Writes eight points behind the first `at` bytes of `output`; `None` exactly where the table lacks one
+/// of them.
 #[inline(always)]
-pub fn write_all<T: Lookup>(
-    tables: &T,
+pub fn write_eight<T: Lookup>(
+    tables: &mut T,
     table: u32,
-    points: &[u16],
+    points: [u16; 8],
     output: &mut [u8],
     at: usize,
 ) -> Option<usize>
-    requires within { table < length (T.tables tables.now) }
-    requires few { length points.now ≤ 16 }
-    requires room { at + 64 ≤ length output.old }
-    ensures { MatchOption result (output.new ≡ output.old)
-        (ArePut (table_at (T.tables tables.now) table) points.now at output.old output.new) }
+    requires ready { T.ready tables.old }
+    requires within { table < length (T.tables tables.old) }
+    requires room { at + 32 ≤ length output.old }
+    ensures put { let t = table_at (T.tables tables.old) table in
+        MatchOption result (¬ (AllByRecursion (IsInTable t) points) × (output.new ≡ output.old))
+        (ArePut t points at output.old output.new) }
+    ensures back { HandsBack T.tables T.ready T.kept tables.old tables.new }
 {
-    let codes = codes_for(tables, table, points)?;
-    Some(put_codes(&codes.list[..points.len()], output, at))
+    let codes = codes_for(tables, table, &points)?;
+    Some(put_codes(&codes.list, output, at))
 }

@@ -47,12 +47,14 @@ fn along<W: Words>(words: &mut W, first: u32, bytes: &[u8]) -> Walk
     for byte in bytes {
         let word = words.word(page, *byte);
         used += 1;
-        match page_in(word) {
-            Some(next) => page = next,
-            None if word >= HIT => return Walk::Word {
+        if word >= HIT {
+            return Walk::Word {
                 word: word - HIT,
                 used,
-            },
+            };
+        }
+        match page_in(word) {
+            Some(next) => page = next,
             None => return Walk::Outside,
         }
     }

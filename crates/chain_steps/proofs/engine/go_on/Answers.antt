@@ -1,4 +1,4 @@
-use Rattle.std.proofs.Common.{Some, sym, subst}
+use Rattle.std.proofs.Common.{Some, sym, ◌∙◌, subst}
 use Rattle.code_pairs.specs.Tables.{Tables}
 use Rattle.chain_steps.specs.Chains.{chain, CanRun}
 use Rattle.chain_steps.specs.Runs.{IsStep}
@@ -11,19 +11,19 @@ units-stop-requires-clause-call g c =
     record {
       reader = c.requires.call.reader;
       writer = c.requires.call.writer;
-      range = c.requires.call.range;
-      states = c.chains_are_lawful.ensures.states _ R _ _ _ _ c.blocks-near.ensures.carried c.requires.call.states;
+      range = subst (λ (us : Tables). CanRun us R) (sym c.blocks-near.ensures.back.same) c.requires.call.range;
+      states = c.chains_are_lawful.ensures.states _ R _ _ _ _ c.blocks-near.ensures.run.carried c.requires.call.states;
     }
 
 pub next_unit-requires-clause-call : goal.next_unit-requires-clause-call
 next_unit-requires-clause-call g c =
     let R = c.args.recipe.now in
-    let first = c.chains_are_lawful.ensures.states _ R _ _ _ _ c.blocks-near.ensures.carried c.requires.call.states in
+    let first = c.chains_are_lawful.ensures.states _ R _ _ _ _ c.blocks-near.ensures.run.carried c.requires.call.states in
     let run = step_run _ _ _ _ _ _ _ c.units-stop.ensures.step in
     record {
       reader = c.requires.call.reader;
       writer = c.requires.call.writer;
-      range = subst (λ (us : Tables). CanRun us R) (sym c.units-stop.ensures.back.same) c.requires.call.range;
+      range = subst (λ (us : Tables). CanRun us R) (sym (c.units-stop.ensures.back.same ∙ c.blocks-near.ensures.back.same)) c.requires.call.range;
       states = c.chains_are_lawful.ensures.states _ R _ _ _ _ run.carried first;
     }
 
@@ -38,9 +38,10 @@ returns-then-is_final-clause-step g c =
     let a = c.blocks-near in
     let b = c.units-stop.new in
     let front = c.window-front.ensures.front in
-    let step : IsStep K w a.new.output b.output a.result b.reached (Some v) = c.in-Some.ensures.step in
+    let step : IsStep K w a.new.output b.output a.result b.reached (Some v) =
+    subst (λ (us : Tables). IsStep (chain us c.args.recipe.now) w a.new.output b.output a.result b.reached (Some v)) a.ensures.back.same c.in-Some.ensures.step in
     let run = window_run K x w a.new.output b.output a.result b.reached front step.0 in (
-      run_more K join x c.args.output.now a.new.output b.output c.args.reached.now a.result b.reached a.ensures run,
+      run_more K join x c.args.output.now a.new.output b.output c.args.reached.now a.result b.reached a.ensures.run run,
       window_stop K x w b.output b.reached v step.0.within front (c.is_final.ensures c.if-is_final.true) step.1,
     )
 
@@ -54,8 +55,9 @@ returns-clause-step g c =
     let a = c.blocks-near in
     let b = c.units-stop.new in
     let d = c.next_unit in
-    let part = step_run K w a.new.output b.output a.result b.reached c.units-stop.result c.units-stop.ensures.step in
+    let step = subst (λ (us : Tables). IsStep (chain us c.args.recipe.now) w a.new.output b.output a.result b.reached c.units-stop.result) a.ensures.back.same c.units-stop.ensures.step in
+    let part = step_run K w a.new.output b.output a.result b.reached c.units-stop.result step in
     let run = window_run K x w a.new.output b.output a.result b.reached c.window-front.ensures.front part in
     step_after K join x c.args.output.now b.output d.new.output c.args.reached.now b.reached d.new.reached d.result
-    (run_more K join x c.args.output.now a.new.output b.output c.args.reached.now a.result b.reached a.ensures run)
-    (subst (λ (us : Tables). IsStep (chain us c.args.recipe.now) x b.output d.new.output b.reached d.new.reached d.result) c.units-stop.ensures.back.same d.ensures.step)
+    (run_more K join x c.args.output.now a.new.output b.output c.args.reached.now a.result b.reached a.ensures.run run)
+    (subst (λ (us : Tables). IsStep (chain us c.args.recipe.now) x b.output d.new.output b.reached d.new.reached d.result) (c.units-stop.ensures.back.same ∙ a.ensures.back.same) d.ensures.step)

@@ -1,5 +1,6 @@
-use Rattle.std.proofs.Common.{◌≡◌, ℕ, ◌*◌, ◌-◌, ◌≤◌, length, take}
+use Rattle.std.proofs.Common.{◌≡◌, ◌*◌, ◌-◌, ◌≤◌, length, take}
 use Rattle.code_pairs.specs.Tables.{table_at}
+use Rattle.code_table.specs.HandsBack.{HandsBack}
 use Rattle.step_table.specs.Eight.{AreCodes}
 use Rattle.step_table.proofs.eight.read_eight.Given as goal
 
@@ -9,7 +10,8 @@ invariant-loop-i g l = record {
   long : length l.points ≡ 8;
   some : l.i ≤ l.used;
   most : l.used ≤ 4 * l.i;
-  codes : AreCodes (table_at (g.T.Lookup.tables l.tables) l.table) (take l.i l.points) (take l.used l.input);
+  back : HandsBack g.T.Lookup.tables g.T.Lookup.ready g.T.Lookup.kept l.initial.tables l.tables;
+  codes : AreCodes (table_at (g.T.Lookup.tables l.initial.tables) l.table) (take l.i l.points) (take l.used l.input);
 }
 
 abbrev pub decreases-loop-i : goal.decreases-loop-i

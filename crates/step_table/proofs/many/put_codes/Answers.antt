@@ -1,4 +1,4 @@
-use Rattle.std.proofs.Common.{◌≡◌, ◌∙◌, ◌+◌, ◌++◌, ℕ, arith, ap, rules, length, take, drop, get_or, sym, subst}
+use Rattle.std.proofs.Common.{◌≡◌, ◌∙◌, ◌+◌, ◌++◌, ℕ, arith, ap, rules, take, drop, get_or, sym, subst}
 use Rattle.step_table.proofs.ManyLaws.{put_next, rest_next}
 use Rattle.step_table.proofs.many.put_codes.Goals as goal
 

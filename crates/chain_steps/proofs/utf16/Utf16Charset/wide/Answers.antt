@@ -7,14 +7,14 @@ use Rattle.chain_steps.specs.Blocks.{IsBlock}
 use Rattle.chain_steps.proofs.WideSets.{marked_low_block, marked_high_block}
 use Rattle.chain_steps.proofs.utf16.Utf16Charset.wide.Goals as goal
 
-pub returns-in_ok-wide-in-Little : goal.returns-in_ok-wide-in-Little
-returns-in_ok-wide-in-Little g c =
+pub returns-in_ok-wide-in-Little-clause-block : goal.returns-in_ok-wide-in-Little-clause-block
+returns-in_ok-wide-in-Little-clause-block g c =
     let at = c.in_ok-wide-in-Little in
     subst (λ (s : State). IsBlock AreWide (IsUnit Utf16) s c.args.input.now at.wide.points 16) (sym c.in-Little.is)
     (marked_low_block c.args.input.now at.wide.points (omega arith) at.ensures.1 at.ensures.0)
 
-pub returns-in_ok-wide-in-Big : goal.returns-in_ok-wide-in-Big
-returns-in_ok-wide-in-Big g c =
+pub returns-in_ok-wide-in-Big-clause-block : goal.returns-in_ok-wide-in-Big-clause-block
+returns-in_ok-wide-in-Big-clause-block g c =
     let at = c.in_ok-wide-in-Big in
     subst (λ (s : State). IsBlock AreWide (IsUnit Utf16) s c.args.input.now at.wide.points 16) (sym c.in-Big.is)
     (marked_high_block c.args.input.now at.wide.points (omega arith) at.ensures.1 at.ensures.0)
