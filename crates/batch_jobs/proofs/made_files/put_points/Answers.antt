@@ -20,7 +20,7 @@ pairs-preserved c =
           ∙ ap (λ s. new ++ spelled_all n k (points s (made_points - 2 * (c.pairs.pair + 1)))) (sym two),
       c.second_seed-seed.ensures.range,
       omega (arith, c.put_point-middle.ensures.range, c.put_point-at.ensures.range, c.pairs.invariant.2),
-      c.pairs.invariant.3,
+      omega (arith, c.pairs.invariant.3),
     )
 
 pub returns-clause-front : goal.returns-clause-front
