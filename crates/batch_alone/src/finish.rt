@@ -3,7 +3,7 @@
 ghost use Rattle.std.specs.Prelude.{◌≡◌, ◌≤◌, ◌+◌, ◌*◌, ℕ, List, All, IfOk, OnErr, length, map, option_map};
 ghost use Rattle.outside.specs.Faults.{RoseBy};
 ghost use Rattle.outside.specs.Moments.{Written};
-ghost use Rattle.batch_jobs.specs.declared.limits.TheConstants.{MOST_JOBS};
+ghost use Rattle.batch_jobs.specs.Limits.{most_jobs};
 ghost use Rattle.batch_jobs.specs.Jobs.{HasShortNames, line_of};
 ghost use Rattle.batch_jobs.specs.declared.outcomes.Outcome.{Outcome};
 ghost use Rattle.batch_runs.specs.Lines.{memory_line};
@@ -108,7 +108,7 @@ pub fn run_jobs<B: Runtime, F: Files, O: Sink>(
     files: &mut F,
     out: &mut O,
 ) -> Ended<B::Library>
-    requires few { length jobs.now ≤ MOST_JOBS }
+    requires few { length jobs.now ≤ most_jobs }
     requires names { All HasShortNames jobs.now }
     requires fresh { IsFresh (B.book book) }
     requires places { 4 * length jobs.now ≤ (B.book book).limit }

@@ -10,9 +10,7 @@ use batch_jobs::Job;
 use batch_runs::Miss;
 use outside::{Files, Taken};
 use std::alloc::{AllocError, Global};
-
-/// The most bytes of one input.
-pub const ONE_INPUT: u32 = 16_777_216;
+use text_lines::LONGEST_TEXT;
 
 /// The most bytes of all inputs.
 pub const ALL_INPUTS: u32 = 268_435_456;
@@ -45,7 +43,11 @@ fn take_one<F: Files>(
     ensures takes { IfOk result (λ i. RoseBy (read_fault (taking_of i))
         (F.outside files.old).takes (F.outside files.new).takes) }
 {
-    let limit = if left < ONE_INPUT { left } else { ONE_INPUT };
+    let limit = if left < LONGEST_TEXT {
+        left
+    } else {
+        LONGEST_TEXT
+    };
     match files.take(alloc, name, limit) {
         Taken::Bytes(bytes) => Ok(Input::Bytes(bytes)),
         Taken::Absent => Ok(Input::Missed(Miss::NoFile)),

@@ -2,7 +2,7 @@
 
 ghost use Rattle.std.specs.Prelude.{◌≡◌, ◌≤◌, ◌+◌, ◌*◌, length, map, All, IfOk, MatchResult};
 ghost use Rattle.text_lines.specs.Limits.{longest_text};
-ghost use Rattle.batch_jobs.specs.declared.limits.TheConstants.{MOST_JOBS};
+ghost use Rattle.batch_jobs.specs.Limits.{most_jobs};
 ghost use Rattle.batch_jobs.specs.Jobs.{HasShortNames, line_of};
 ghost use Rattle.batch_runs.specs.Takings.{length_taken};
 ghost use Rattle.batch_alone.specs.Books.{HasPlace};
@@ -63,7 +63,7 @@ pub fn do_jobs<B: Runtime, F: Files>(
     sums: bool,
 ) -> Result<Settled, AllocError>
     requires alike { length inputs.now ≡ length jobs.now }
-    requires few { length jobs.now ≤ MOST_JOBS }
+    requires few { length jobs.now ≤ most_jobs }
     requires names { All HasShortNames jobs.now }
     requires short { All (λ i. length_taken (taking_of i) ≤ longest_text) inputs.now }
     requires fresh { IsFresh (B.book book.old) }

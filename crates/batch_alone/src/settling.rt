@@ -1,7 +1,7 @@
 //! All of a run's jobs, from its inputs to its report.
 
 ghost use Rattle.std.specs.Prelude.{◌≡◌, ◌≤◌, ◌*◌, IfOk, length, map, All, MatchResult};
-ghost use Rattle.batch_jobs.specs.declared.limits.TheConstants.{MOST_JOBS};
+ghost use Rattle.batch_jobs.specs.Limits.{most_jobs};
 ghost use Rattle.batch_jobs.specs.Jobs.{HasShortNames, line_of};
 ghost use Rattle.batch_jobs.specs.Reports.{report_of, sum_report_of};
 ghost use Rattle.batch_runs.specs.Batches.{all_good};
@@ -42,7 +42,7 @@ pub fn report_text(
     read: u64,
     totals: Totals,
 ) -> Result<Vec<u8>, AllocError>
-    requires { length outcomes.now ≤ MOST_JOBS }
+    requires { length outcomes.now ≤ most_jobs }
     ensures { IfOk result (λ text. text.items ≡ report_with sums outcomes.now read totals) }
 {
     if sums {
@@ -60,7 +60,7 @@ pub fn settle<B: Runtime, F: Files>(
     jobs: &[Job],
     sums: bool,
 ) -> Result<Reported, AllocError>
-    requires few { length jobs.now ≤ MOST_JOBS }
+    requires few { length jobs.now ≤ most_jobs }
     requires names { All HasShortNames jobs.now }
     requires fresh { IsFresh (B.book book.old) }
     requires places { 4 * length jobs.now ≤ (B.book book.old).limit }

@@ -5,7 +5,7 @@ ghost use Rattle.text_lines.specs.Limits.{longest_text};
 ghost use Rattle.modules_conf.specs.Limits.{AreSound, IsWithinLimits};
 ghost use Rattle.modules_conf.specs.Modules.{conf_of};
 ghost use Rattle.modules_conf.specs.Bindings.{bindings_of};
-ghost use Rattle.batch_jobs.specs.declared.limits.TheConstants.{MOST_JOBS};
+ghost use Rattle.batch_jobs.specs.Limits.{most_jobs};
 ghost use Rattle.batch_jobs.specs.Jobs.{HasShortNames, line_of};
 ghost use Rattle.batch_words.specs.Asked.{Single};
 ghost use Rattle.batch_runs.specs.Endings.{status_of};
@@ -33,7 +33,7 @@ fn single_list(
     requires to { length to.now ≤ longest_text }
     ensures jobs { IfOk result (λ jobs. map line_of jobs.items
         ≡ single_job from.now to.now input.now output.now ∷ []) }
-    ensures few { IfOk result (λ jobs. length jobs.items ≤ MOST_JOBS) }
+    ensures few { IfOk result (λ jobs. length jobs.items ≤ most_jobs) }
     ensures names { IfOk result (λ jobs. All HasShortNames jobs.items) }
 {
     let mut jobs = Vec::new(alloc);
@@ -63,7 +63,7 @@ fn single_ready(
         ≡ single_job from.now to.now input.now output.now ∷ []) }
     ensures limits { IfOk result (λ r. IsWithinLimits r.conf.edges) }
     ensures sound { IfOk result (λ r. AreSound r.bindings) }
-    ensures few { IfOk result (λ r. length r.jobs.items ≤ MOST_JOBS) }
+    ensures few { IfOk result (λ r. length r.jobs.items ≤ most_jobs) }
     ensures names { IfOk result (λ r. All HasShortNames r.jobs.items) }
 {
     let Ok(conf) = read_modules(alloc, b"".as_slice()) else {

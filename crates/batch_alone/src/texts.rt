@@ -5,7 +5,7 @@ ghost use Rattle.outside.specs.Faults.{RoseBy};
 ghost use Rattle.modules_conf.specs.Modules.{conf_of};
 ghost use Rattle.modules_conf.specs.Bindings.{bindings_of};
 ghost use Rattle.modules_conf.specs.Limits.{AreSound, IsWithinLimits};
-ghost use Rattle.batch_jobs.specs.declared.limits.TheConstants.{MOST_JOBS};
+ghost use Rattle.batch_jobs.specs.Limits.{most_jobs};
 ghost use Rattle.batch_jobs.specs.Jobs.{jobs_of, line_of, HasShortNames};
 ghost use Rattle.batch_runs.specs.Takings.{Got, TakesOne, one_input};
 ghost use Rattle.batch_runs.specs.Preparing.{Accepts};
@@ -17,9 +17,7 @@ use batch_runs::{InputKind, Stop, Which};
 use modules_conf::{BindFault, Bindings, Conf, ConfFault, read_bindings, read_modules};
 use outside::{Files, Taken};
 use std::alloc::Global;
-
-/// The most bytes of a text.
-const ONE_TEXT: u32 = 16_777_216;
+use text_lines::LONGEST_TEXT;
 
 /// What the texts of a run stand for.
 #[derive(Drop)]
@@ -81,7 +79,7 @@ fn take_text<F: Files>(
     ensures count { (F.outside files.old).takes ≤ (F.outside files.new).takes }
     ensures failed { IfErr result (λ h. RoseBy (halt_fault h) (F.outside files.old).takes (F.outside files.new).takes) }
 {
-    match files.take(alloc, name, ONE_TEXT) {
+    match files.take(alloc, name, LONGEST_TEXT) {
         Taken::Bytes(bytes) => Ok(bytes),
         Taken::Absent => Err(refused(which, InputKind::Absent)),
         Taken::TooLarge => Err(refused(which, InputKind::TooLarge)),
@@ -137,7 +135,7 @@ fn take_jobs<F: Files>(alloc: Global, files: &mut F, name: &str) -> Result<Vec<J
     ensures read { MatchResult result
         (λ jobs. (x : List ℕ) × Accepts (F.outside files.old).told (record { which = Which.Jobs; name = name.now }) x × (jobs_of x ≡ Ok (map line_of jobs.items)))
         (λ h. HaltsRead (F.outside files.old).told (record { which = Which.Jobs; name = name.now } ∷ []) h) }
-    ensures few { IfOk result (λ jobs. length jobs.items ≤ MOST_JOBS) }
+    ensures few { IfOk result (λ jobs. length jobs.items ≤ most_jobs) }
     ensures names { IfOk result (λ jobs. All HasShortNames jobs.items) }
     ensures told { (F.outside files.new).told ≡ (F.outside files.old).told }
     ensures puts { (F.outside files.new).puts ≡ (F.outside files.old).puts }
@@ -168,7 +166,7 @@ pub fn prepare<F: Files>(
         ∷ record { which = Which.Bindings; name = bindings.now } ∷ record { which = Which.Jobs; name = jobs.now } ∷ []) h) }
     ensures limits { IfOk result (λ r. IsWithinLimits r.conf.edges) }
     ensures sound { IfOk result (λ r. AreSound r.bindings) }
-    ensures few { IfOk result (λ r. length r.jobs.items ≤ MOST_JOBS) }
+    ensures few { IfOk result (λ r. length r.jobs.items ≤ most_jobs) }
     ensures names { IfOk result (λ r. All HasShortNames r.jobs.items) }
     ensures told { (F.outside files.new).told ≡ (F.outside files.old).told }
     ensures puts { (F.outside files.new).puts ≡ (F.outside files.old).puts }

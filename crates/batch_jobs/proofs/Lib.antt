@@ -1,3 +1,4 @@
 pub mod FileNames
 pub mod Ranges
 pub mod MadeLines
+pub mod MadeWords

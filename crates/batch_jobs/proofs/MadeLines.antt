@@ -5,7 +5,7 @@ use Rattle.std.proofs.lemmas.Bool.{eq-eqb, ne_eqb}
 use Rattle.std.proofs.lemmas.Nat.{mul-le}
 use Rattle.std.proofs.lemmas.List.FromFn.{length-range_with_len, get_or-range_with_len}
 use Rattle.std.proofs.lemmas.List.Sums.{position_or_len_is}
-use Rattle.batch_jobs.specs.declared.limits.TheConstants.{MADE_CHARMAPS, MADE_LINES}
+use Rattle.batch_jobs.specs.Limits.{made_charmaps, made_lines}
 use Rattle.batch_jobs.specs.Generated.{above_at, line_with}
 use Rattle.batch_jobs.specs.Inverses.{inverse_of}
 
@@ -53,7 +53,7 @@ line_with_inverse number charmap above few in_range la =
     let line : ℕ = (above + 1024 - number) * inverse_of charmap % 1024 in
     let short : line < 1024 = omega arith in
     let is : above_at number charmap line ≡ above = inverse_line number charmap above few in_range la in
-    first_place (λ l. eqb (above_at number charmap l) above) MADE_LINES line short
+    first_place (λ l. eqb (above_at number charmap l) above) made_lines line short
     (eq-eqb (above_at number charmap line) above is)
     (λ k below. ne_eqb (above_at number charmap k) above
     (λ same. let one : k ≡ line = one_line number charmap k line in_range (omega arith) short (same ∙ sym is) in omega arith))
@@ -71,10 +71,10 @@ inverse_small (suc (suc (suc (suc (suc (suc (suc zero))))))) in_range = omega ar
 inverse_small (suc (suc (suc (suc (suc (suc (suc (suc charmap)))))))) in_range = omega arith
 
 -- A product with a factor is small.
-pub inverse_product : (ahead charmap : ℕ) → ahead ≤ 2048 → charmap < MADE_CHARMAPS → ahead * inverse_of charmap ≤ 1906688
+pub inverse_product : (ahead charmap : ℕ) → ahead ≤ 2048 → charmap < made_charmaps → ahead * inverse_of charmap ≤ 1906688
 inverse_product ahead charmap la in_range =
     mul-le ahead (inverse_of charmap) 2048 931 la (inverse_small charmap in_range)
 
 -- A product of a line and an odd number is small.
-pub line_product : (line charmap : ℕ) → line < MADE_LINES → charmap ≤ MADE_CHARMAPS → line * (2 * charmap + 1) ≤ 17408
+pub line_product : (line charmap : ℕ) → line < made_lines → charmap ≤ made_charmaps → line * (2 * charmap + 1) ≤ 17408
 line_product line charmap ll in_range = mul-le line (2 * charmap + 1) 1024 17 (omega arith) (omega arith)

@@ -4,7 +4,7 @@ use Rattle.std.specs.List.{concat, range_with_len, position_or_len}
 use Rattle.std.specs.Fmt.{decimal}
 use Rattle.outside.specs.Shelves.{File, Shelf}
 use Rattle.outside.specs.Stored.{shelf_of}
-use Rattle.batch_jobs.specs.declared.limits.TheConstants.{MADE_CHARMAPS, MADE_LINES, MADE_JOBS, MADE_POINTS}
+use Rattle.batch_jobs.specs.Limits.{made_charmaps, made_lines, made_jobs, made_points}
 use Rattle.batch_jobs.specs.declared.generated.Generated.{Generated}
 use Rattle.batch_jobs.specs.Jobs.{Text}
 use Rattle.batch_jobs.specs.Refusals.{hex_text}
@@ -34,7 +34,7 @@ module_lines set = codes "module GEN-" ++ (decimal set ++ (codes "// INTERNAL GE
 
 -- The module lines of all sets.
 unfoldable pub all_modules : Text
-all_modules = concat (map module_lines (range_with_len 0 MADE_CHARMAPS))
+all_modules = concat (map module_lines (range_with_len 0 made_charmaps))
 
 -- The modules: those of each set, and a recoding from the first to the second.
 abbrev pub modules_text : Text
@@ -46,7 +46,7 @@ binding_line set = codes "GEN" ++ (decimal set ++ (codes " table G" ++ (decimal 
 
 -- The bindings of all sets.
 unfoldable pub all_bindings : Text
-all_bindings = concat (map binding_line (range_with_len 0 MADE_CHARMAPS))
+all_bindings = concat (map binding_line (range_with_len 0 made_charmaps))
 
 -- The bindings: those of each set, and the recoding.
 abbrev pub bindings_text : Text
@@ -54,17 +54,17 @@ bindings_text = all_bindings ++ codes "GENR recode G0 G1\n"
 
 -- A job of this number, between two sets that differ.
 abbrev pub job_line : ℕ → Text
-job_line job = codes "GEN-" ++ (decimal (job % MADE_CHARMAPS)
-    ++ (codes " GEN-" ++ (decimal ((3 * job + 1) % MADE_CHARMAPS)
+job_line job = codes "GEN-" ++ (decimal (job % made_charmaps)
+    ++ (codes " GEN-" ++ (decimal ((3 * job + 1) % made_charmaps)
     ++ (codes " in-" ++ (decimal job ++ (codes " out-" ++ (decimal job ++ codes "\n")))))))
 
 -- The jobs, from 1.
 unfoldable pub jobs_text : Text
-jobs_text = concat (map job_line (range_with_len 1 MADE_JOBS))
+jobs_text = concat (map job_line (range_with_len 1 made_jobs))
 
 -- How far above 4E00 hex the point of a line of a charmap is.
 abbrev pub above_at : ℕ → ℕ → ℕ → ℕ
-above_at number charmap line = (line * (2 * charmap + 1) + number) % MADE_LINES
+above_at number charmap line = (line * (2 * charmap + 1) + number) % made_lines
 
 -- The code of a line.
 abbrev pub code_at : ℕ → Text
@@ -90,7 +90,7 @@ mapping_line number charmap line =
 
 -- The mapping lines of a charmap.
 unfoldable pub all_mappings : ℕ → ℕ → Text
-all_mappings number charmap = concat (map (mapping_line number charmap) (range_with_len 0 MADE_LINES))
+all_mappings number charmap = concat (map (mapping_line number charmap) (range_with_len 0 made_lines))
 
 -- The text of a charmap: ASCII in one byte, and then the points of its lines in two bytes.
 abbrev pub charmap_text : ℕ → ℕ → Text
@@ -106,7 +106,7 @@ charmap_file number charmap =
 -- The line of a charmap with the point that is so far above 4E00 hex: the first.
 unfoldable pub line_with : ℕ → ℕ → ℕ → ℕ
 line_with number charmap above =
-    position_or_len (λ line. above_at number charmap line == above) (range_with_len 0 MADE_LINES)
+    position_or_len (λ line. above_at number charmap line == above) (range_with_len 0 made_lines)
 
 -- A point as a charmap spells it: in one byte, or by the code of its line.
 abbrev pub spelled : ℕ → ℕ → ℕ → Text
@@ -134,7 +134,7 @@ spelled_all number charmap ps = concat (map (spelled number charmap) ps)
 -- The bytes of a job's input.
 abbrev pub spelled_points : ℕ → ℕ → Text
 spelled_points number job =
-    spelled_all number (job % MADE_CHARMAPS) (points (64 * number + job) MADE_POINTS)
+    spelled_all number (job % made_charmaps) (points (64 * number + job) made_points)
 
 -- The file of a job's input.
 abbrev pub input_file : ℕ → ℕ → File
@@ -146,7 +146,7 @@ abbrev pub generated : ℕ → Input
 generated number = record {
   modules = modules_text;
   bindings = bindings_text;
-  charmaps = map (charmap_file number) (range_with_len 0 MADE_CHARMAPS);
+  charmaps = map (charmap_file number) (range_with_len 0 made_charmaps);
   jobs = jobs_text;
-  files = map (input_file number) (range_with_len 1 MADE_JOBS);
+  files = map (input_file number) (range_with_len 1 made_jobs);
 }

@@ -4,7 +4,7 @@ use Rattle.std.specs.List.{list_any, enumerate_from}
 use Rattle.std.specs.Str.{is_utf8}
 use Rattle.text_lines.specs.Limits.{longest_text}
 use Rattle.modules_conf.specs.Bindings.{Row, rows}
-use Rattle.batch_jobs.specs.declared.limits.TheConstants.{MOST_JOBS}
+use Rattle.batch_jobs.specs.Limits.{most_jobs}
 use Rattle.batch_jobs.specs.declared.jobs.Job.{Job}
 use Rattle.batch_jobs.specs.declared.jobs.JobFault.{JobFault}
 use Rattle.batch_jobs.specs.declared.jobs.JobFault.TheVariants.{WordCount, TooMany, NotText}
@@ -45,7 +45,7 @@ is_file_name word = is_utf8 word && not (list_any (λ b. b == 0) word)
 abbrev pub job_of : ℕ → ℕ → List Text → Result JobLine JobFault
 job_of before line (from ∷ to ∷ input ∷ output ∷ []) =
     if not (is_file_name input && is_file_name output) then Err (NotText line)
-    else (if nat_le MOST_JOBS before then Err (TooMany line)
+    else (if nat_le most_jobs before then Err (TooMany line)
     else Ok (record { line = line; from = from; to = to; input = input; output = output }))
 job_of before line _ = Err (WordCount line)
 

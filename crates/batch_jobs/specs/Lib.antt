@@ -1,3 +1,4 @@
+pub mod Limits
 pub mod Jobs
 pub mod Reading
 pub mod Refusals
@@ -5,3 +6,4 @@ pub mod Reports
 pub mod Journals
 pub mod Inverses
 pub mod Generated
+pub mod Packed

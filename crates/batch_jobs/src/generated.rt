@@ -3,12 +3,15 @@
 ghost use Rattle.std.specs.Prelude.{◌≡◌, ◌≤◌, ◌++◌, IfOk, codes, map, string_bytes};
 ghost use Rattle.std.specs.List.{range_with_len};
 ghost use Rattle.outside.specs.Stored.{file_of, shelf_of};
+ghost use Rattle.batch_jobs.specs.Limits.{made_charmaps, made_jobs, most_number};
 ghost use Rattle.batch_jobs.specs.Generated.{bindings_text, charmap_file, generated, input_file, input_of, jobs_text, modules_text};
+ghost use Rattle.batch_jobs.specs.Packed.{ArePacked};
 
-use crate::limits::{MADE_CHARMAPS, MADE_JOBS, MOST_NUMBER};
+use crate::limits::{MADE_CHARMAPS, MADE_JOBS};
 use crate::made_charmaps::charmap_text;
 use crate::made_files::spelled_points;
 use crate::made_lists::{bindings_text, jobs_text, modules_text};
+use crate::made_words::packed_texts;
 use std::alloc::{AllocError, Global};
 
 /// The texts of a run, the charmaps of its library and the files of its jobs. The folder of the
@@ -24,8 +27,8 @@ pub struct Generated {
 
 /// The file of this charmap.
 fn charmap_file(alloc: Global, number: u32, charmap: u32) -> Result<(String, Vec<u8>), AllocError>
-    requires number { number ≤ MOST_NUMBER }
-    requires charmap { charmap ≤ MADE_CHARMAPS }
+    requires number { number ≤ most_number }
+    requires charmap { charmap ≤ made_charmaps }
     ensures { IfOk result (λ file. file_of file ≡ charmap_file number charmap) }
 {
     let path = format!(in alloc; "gen/G{charmap}")?;
@@ -36,9 +39,9 @@ fn charmap_file(alloc: Global, number: u32, charmap: u32) -> Result<(String, Vec
 /// The files of all charmaps.
 #[tactic(auto, using(crate::proofs::Ranges::map_range_none))]
 fn charmap_files(alloc: Global, number: u32) -> Result<Vec<(String, Vec<u8>)>, AllocError>
-    requires { number ≤ MOST_NUMBER }
+    requires { number ≤ most_number }
     ensures { IfOk result (λ files. shelf_of files.items
-        ≡ map (charmap_file number) (range_with_len 0 MADE_CHARMAPS)) }
+        ≡ map (charmap_file number) (range_with_len 0 made_charmaps)) }
 {
     let mut files = Vec::new(alloc);
     'charmaps: for charmap in 0..MADE_CHARMAPS {
@@ -48,33 +51,40 @@ fn charmap_files(alloc: Global, number: u32) -> Result<Vec<(String, Vec<u8>)>, A
 }
 
 /// The file of this job's input.
-fn input_file(alloc: Global, number: u32, job: u32) -> Result<(String, Vec<u8>), AllocError>
-    requires number { number ≤ MOST_NUMBER }
-    requires job { job ≤ MADE_JOBS }
+fn input_file(
+    alloc: Global,
+    number: u32,
+    job: u32,
+    words: &[u16],
+) -> Result<(String, Vec<u8>), AllocError>
+    requires number { number ≤ most_number }
+    requires job { job ≤ made_jobs }
+    requires words { ArePacked number words.now }
     ensures { IfOk result (λ file. file_of file ≡ input_file number job) }
 {
     let path = format!(in alloc; "in-{job}")?;
-    let bytes = spelled_points(alloc, number, job)?;
+    let bytes = spelled_points(alloc, number, job, words)?;
     Ok((path, bytes))
 }
 
 /// The files of all inputs.
 #[tactic(auto, using(crate::proofs::Ranges::map_range_none))]
 fn input_files(alloc: Global, number: u32) -> Result<Vec<(String, Vec<u8>)>, AllocError>
-    requires { number ≤ MOST_NUMBER }
+    requires { number ≤ most_number }
     ensures { IfOk result (λ files. shelf_of files.items
-        ≡ map (input_file number) (range_with_len 1 MADE_JOBS)) }
+        ≡ map (input_file number) (range_with_len 1 made_jobs)) }
 {
+    let words = packed_texts(alloc, number)?;
     let mut files = Vec::new(alloc);
     'jobs: for job in 1..MADE_JOBS + 1 {
-        files.push(input_file(alloc, number, job)?)?;
+        files.push(input_file(alloc, number, job, words.as_slice())?)?;
     }
     Ok(files)
 }
 
 /// The input of this number, up to 1,000: 64 jobs between 8 sets of 1,152 points each.
 pub fn generate(alloc: Global, number: u32) -> Result<Generated, AllocError>
-    requires { number ≤ MOST_NUMBER }
+    requires { number ≤ most_number }
     ensures { IfOk result (λ made. input_of made ≡ generated number) }
 {
     Ok(Generated {

@@ -3,6 +3,7 @@
 ghost use Rattle.std.specs.Prelude.{◌≡◌, ◌≢◌, ◌<◌, ◌≤◌, Ok, Err, true, false, length, map, All, IfOk, OnOk, IfErr, MatchOption, MatchResult};
 ghost use Rattle.text_lines.specs.Limits.{longest_text};
 ghost use Rattle.modules_conf.specs.Bindings.{counts};
+ghost use Rattle.batch_jobs.specs.Limits.{most_jobs};
 ghost use Rattle.batch_jobs.specs.Jobs.{HasShortNames, is_file_name, job_of, jobs_of, line_of};
 ghost use Rattle.batch_jobs.specs.Reading.{RefusesLine, TakesLine};
 
@@ -70,7 +71,7 @@ fn read_job(alloc: Global, before: usize, line: u32, words: &[&[u8]]) -> Result<
         (λ job. job_of before line (map (λ word. word.now) words.now) ≡ Ok (line_of job))
         (λ fault. fault ≢ JobFault.Memory
         → job_of before line (map (λ word. word.now) words.now) ≡ Err fault) }
-    ensures few { IfOk result (λ _. before < MOST_JOBS) }
+    ensures few { IfOk result (λ _. before < most_jobs) }
     ensures short { IfOk result HasShortNames }
 {
     let [from, to, input, output] = words else {
@@ -94,9 +95,9 @@ fn read_job(alloc: Global, before: usize, line: u32, words: &[&[u8]]) -> Result<
 /// Takes one more line.
 fn take_line(alloc: Global, jobs: &mut Vec<Job>, number: u32, line: &[u8]) -> Result<(), JobFault>
     requires long { length line.now ≤ longest_text }
-    requires few { length jobs.old.items ≤ MOST_JOBS }
+    requires few { length jobs.old.items ≤ most_jobs }
     requires short { All HasShortNames jobs.old.items }
-    ensures few { OnOk result (length jobs.new.items ≤ MOST_JOBS) }
+    ensures few { OnOk result (length jobs.new.items ≤ most_jobs) }
     ensures short { OnOk result (All HasShortNames jobs.new.items) }
     ensures ok { OnOk result
         (TakesLine (map line_of jobs.old.items) number line.now (map line_of jobs.new.items)) }
@@ -124,7 +125,7 @@ pub fn read_jobs(alloc: Global, text: &[u8]) -> Result<Vec<Job>, JobFault>
     ensures value { MatchResult result
         (λ jobs. jobs_of text.now ≡ Ok (map line_of jobs.items))
         (λ fault. fault ≢ JobFault.Memory → jobs_of text.now ≡ Err fault) }
-    ensures few { IfOk result (λ jobs. length jobs.items ≤ MOST_JOBS) }
+    ensures few { IfOk result (λ jobs. length jobs.items ≤ most_jobs) }
     ensures short { IfOk result (λ jobs. All HasShortNames jobs.items) }
 {
     let mut jobs = Vec::new(alloc);

@@ -10,6 +10,7 @@ mod limits;
 mod made_charmaps;
 mod made_files;
 mod made_lists;
+mod made_words;
 mod numbers;
 mod outcomes;
 mod refusal_texts;

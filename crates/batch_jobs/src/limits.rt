@@ -1,4 +1,4 @@
-//! How long a list of jobs may be.
+//! The numbers of `specs/Limits.antt`, for the code, and those that are the code's own.
 
 /// The most jobs.
 pub const MOST_JOBS: usize = 4_096;
@@ -17,3 +17,9 @@ pub(crate) const MADE_JOBS: u32 = 64;
 
 /// The points of the input of each of its jobs.
 pub(crate) const MADE_POINTS: u32 = 65_536;
+
+/// So many bytes have room for them.
+pub(crate) const MADE_BYTES: usize = 131_072;
+
+/// How many points the charmaps spell for the upper halves of seeds: 32,768 each.
+pub(crate) const MADE_PLACES: u32 = 262_144;

@@ -1,9 +1,10 @@
 //! The charmaps of a large input that the program makes itself.
 
 ghost use Rattle.std.specs.Prelude.{◌≡◌, ◌<◌, ◌≤◌, ◌++◌, IfOk, OnOk};
+ghost use Rattle.batch_jobs.specs.Limits.{made_charmaps, made_lines, most_number};
 ghost use Rattle.batch_jobs.specs.Generated.{all_mappings, charmap_text, low_digit, mapping_line, mapping_text};
 
-use crate::limits::{MADE_CHARMAPS, MADE_LINES, MOST_NUMBER};
+use crate::limits::MADE_LINES;
 use crate::refusal_texts::hex_digit;
 use std::alloc::{AllocError, Global};
 
@@ -49,9 +50,9 @@ fn add_mapping(text: &mut Vec<u8>, point: u16, first: u8, second: u8) -> Result<
 /// Appends a mapping line of a charmap.
 #[tactic(auto, using(crate::proofs::MadeLines::line_product))]
 fn add_line(text: &mut Vec<u8>, number: u32, charmap: u32, line: u32) -> Result<(), AllocError>
-    requires number { number ≤ MOST_NUMBER }
-    requires charmap { charmap ≤ MADE_CHARMAPS }
-    requires line { line < MADE_LINES }
+    requires number { number ≤ most_number }
+    requires charmap { charmap ≤ made_charmaps }
+    requires line { line < made_lines }
     ensures { OnOk result (text.new.items ≡ text.old.items ++ mapping_line number charmap line) }
 {
     let above = (line * (2 * charmap + 1) + number) % MADE_LINES;
@@ -65,8 +66,8 @@ fn add_line(text: &mut Vec<u8>, number: u32, charmap: u32, line: u32) -> Result<
 
 /// Appends the mapping lines of a charmap.
 fn add_lines(text: &mut Vec<u8>, number: u32, charmap: u32) -> Result<(), AllocError>
-    requires number { number ≤ MOST_NUMBER }
-    requires charmap { charmap ≤ MADE_CHARMAPS }
+    requires number { number ≤ most_number }
+    requires charmap { charmap ≤ made_charmaps }
     ensures { OnOk result (text.new.items ≡ text.old.items ++ all_mappings number charmap) }
 {
     'lines: for line in 0..MADE_LINES {
@@ -77,8 +78,8 @@ fn add_lines(text: &mut Vec<u8>, number: u32, charmap: u32) -> Result<(), AllocE
 
 /// The text of a charmap: ASCII in one byte, and 1,024 points in two.
 pub(crate) fn charmap_text(alloc: Global, number: u32, charmap: u32) -> Result<Vec<u8>, AllocError>
-    requires number { number ≤ MOST_NUMBER }
-    requires charmap { charmap ≤ MADE_CHARMAPS }
+    requires number { number ≤ most_number }
+    requires charmap { charmap ≤ made_charmaps }
     ensures { IfOk result (λ text. text.items ≡ charmap_text number charmap) }
 {
     let mut text = Vec::new(alloc);

@@ -1,13 +1,16 @@
 //! The files of a large input that the program makes itself.
 
-ghost use Rattle.std.specs.Prelude.{◌≡◌, ◌⊎◌, ◌<◌, ◌≤◌, ◌++◌, ◌+◌, ◌*◌, ◌%◌, IfOk, OnOk};
-ghost use Rattle.batch_jobs.specs.Inverses.{inverse_of};
-ghost use Rattle.batch_jobs.specs.Generated.{line_with, next_seed, point_at, points, spelled, spelled_all, spelled_points};
+ghost use Rattle.std.specs.Prelude.{◌≡◌, ◌<◌, ◌≤◌, ◌++◌, ◌+◌, ◌*◌, ◌%◌, IfOk, length, take};
+ghost use Rattle.batch_jobs.specs.Limits.{made_charmaps, made_jobs, made_points, most_number};
+ghost use Rattle.batch_jobs.specs.Generated.{next_seed, point_at, points, spelled, spelled_all, spelled_points};
+ghost use Rattle.batch_jobs.specs.Packed.{ArePacked, packed_text, made_bytes};
 
-use crate::limits::{MADE_CHARMAPS, MADE_JOBS, MADE_LINES, MADE_POINTS, MOST_NUMBER};
+use crate::limits::{MADE_BYTES, MADE_CHARMAPS, MADE_POINTS};
+use crate::made_words::word_of;
 use std::alloc::{AllocError, Global};
 
 /// The next of the numbers that look like chance.
+#[inline(always)]
 fn next_seed(seed: u64) -> u64
     requires { seed < 2147483648 }
     ensures value { result ≡ next_seed seed }
@@ -16,79 +19,93 @@ fn next_seed(seed: u64) -> u64
     (1_103_515_245 * seed + 12_345) % 2_147_483_648
 }
 
-/// The point that such a number stands for.
-fn point_at(seed: u64) -> u32
-    ensures value { result ≡ point_at seed }
-    ensures range { (result < 128) ⊎ ((0x4E00 ≤ result) × (result < 0x4E00 + MADE_LINES)) }
+/// The one after it, which doesn't wait for it.
+#[inline(always)]
+#[tactic(auto, using(crate::proofs::MadeWords::second_seed_is))]
+fn second_seed(seed: u64) -> u64
+    requires { seed < 2147483648 }
+    ensures value { result ≡ next_seed (next_seed seed) }
+    ensures range { result < 2147483648 }
 {
-    let high = seed / 262_144;
-    if seed / 65_536 % 4 == 0 {
-        32 + (high % 95) as u32
-    } else {
-        0x4E00 + (high % 1_024) as u32
-    }
+    (1_117_952_617 * seed + 1_406_932_606) % 2_147_483_648
 }
 
-/// What the odd number of a charmap is multiplied by for a product of 1 modulo 1,024.
-fn inverse_of(charmap: u32) -> u32
-    requires { charmap < MADE_CHARMAPS }
-    ensures { result ≡ inverse_of charmap }
+/// Puts the text that a number stands for, and answers where the next one goes. A text of one byte
+/// writes two as well.
+#[inline(always)]
+#[tactic(auto, using(std::proofs::lemmas::Slice::overwrites))]
+fn put_word(bytes: &mut [u8], at: usize, word: u16) -> usize
+    requires { at + 2 ≤ length bytes.old }
+    ensures front { take result bytes.new ≡ take at bytes.old ++ packed_text word }
+    ensures range { result ≤ at + 2 }
 {
-    let inverses: [u32; 8] = [1, 683, 205, 439, 569, 931, 709, 751];
-    inverses[charmap as usize]
+    bytes[at] = (word % 256) as u8;
+    bytes[at + 1] = (word / 256) as u8;
+    if word < 256 { at + 1 } else { at + 2 }
 }
 
-/// The line of a charmap whose point is so far above 4E00.
-#[tactic(auto, using(crate::proofs::MadeLines::line_with_inverse, crate::proofs::MadeLines::inverse_product))]
-fn line_with(number: u32, charmap: u32, above: u32) -> u32
-    requires number { number ≤ MOST_NUMBER }
-    requires charmap { charmap < MADE_CHARMAPS }
-    requires above { above < MADE_LINES }
-    ensures value { result ≡ line_with number charmap above }
-    ensures range { result < MADE_LINES }
+/// Puts the point of a seed as a charmap spells it, and answers where the next one goes.
+#[inline(always)]
+fn put_point(
+    bytes: &mut [u8],
+    at: usize,
+    words: &[u16],
+    number: u32,
+    charmap: u32,
+    seed: u64,
+) -> usize
+    requires room { at + 2 ≤ length bytes.old }
+    requires words { ArePacked number words.now }
+    requires charmap { charmap < made_charmaps }
+    requires seed { seed < 2147483648 }
+    ensures front { take result bytes.new
+        ≡ take at bytes.old ++ spelled number charmap (point_at seed) }
+    ensures range { result ≤ at + 2 }
 {
-    let ahead = above + MADE_LINES - number;
-    ahead * inverse_of(charmap) % MADE_LINES
+    put_word(bytes, at, word_of(words, number, charmap, seed))
 }
 
-/// Appends a point as a charmap spells it.
-fn add_point(text: &mut Vec<u8>, number: u32, charmap: u32, point: u32) -> Result<(), AllocError>
-    requires number { number ≤ MOST_NUMBER }
-    requires charmap { charmap < MADE_CHARMAPS }
-    requires point { (point < 128) ⊎ ((0x4E00 ≤ point) × (point < 0x4E00 + MADE_LINES)) }
-    ensures { OnOk result (text.new.items ≡ text.old.items ++ spelled number charmap point) }
-{
-    if point < 128 {
-        return text.extend_from_slice(&[point as u8]);
-    }
-    let line = line_with(number, charmap, point - 0x4E00);
-    text.extend_from_slice(&[(0x81 + line / 64) as u8, (0x40 + line % 64) as u8])
-}
-
-/// Appends the points that stand behind a seed, as a charmap spells them.
-fn add_points(text: &mut Vec<u8>, number: u32, charmap: u32, first: u64) -> Result<(), AllocError>
-    requires number { number ≤ MOST_NUMBER }
-    requires charmap { charmap < MADE_CHARMAPS }
+/// Puts the points that stand behind a seed as a charmap spells them, and answers where they end.
+fn put_points(bytes: &mut [u8], words: &[u16], number: u32, charmap: u32, first: u64) -> usize
+    requires room { length bytes.old ≡ made_bytes }
+    requires words { ArePacked number words.now }
+    requires charmap { charmap < made_charmaps }
     requires first { first < 2147483648 }
-    ensures { OnOk result (text.new.items
-        ≡ text.old.items ++ spelled_all number charmap (points first MADE_POINTS)) }
+    ensures front { take result bytes.new ≡ spelled_all number charmap (points first made_points) }
+    ensures range { result ≤ length bytes.new }
 {
+    let mut at = 0;
     let mut seed = first;
-    'points: for place in 0..MADE_POINTS {
-        seed = next_seed(seed);
-        add_point(text, number, charmap, point_at(seed))?;
+    'pairs: for pair in 0..MADE_POINTS / 2 {
+        let one = next_seed(seed);
+        seed = second_seed(seed);
+        let middle = put_point(bytes, at, words, number, charmap, one);
+        at = put_point(bytes, middle, words, number, charmap, seed);
     }
-    Ok(())
+    at
 }
 
 /// The bytes of a job's input.
-pub(crate) fn spelled_points(alloc: Global, number: u32, job: u32) -> Result<Vec<u8>, AllocError>
-    requires number { number ≤ MOST_NUMBER }
-    requires job { job ≤ MADE_JOBS }
+pub(crate) fn spelled_points(
+    alloc: Global,
+    number: u32,
+    job: u32,
+    words: &[u16],
+) -> Result<Vec<u8>, AllocError>
+    requires number { number ≤ most_number }
+    requires job { job ≤ made_jobs }
+    requires words { ArePacked number words.now }
     ensures { IfOk result (λ bytes. bytes.items ≡ spelled_points number job) }
 {
-    let mut bytes = Vec::new(alloc);
+    let mut bytes = vec![in alloc; 0; MADE_BYTES]?;
     let first = 64 * number as u64 + job as u64;
-    add_points(&mut bytes, number, job % MADE_CHARMAPS, first)?;
+    let end = put_points(
+        bytes.as_mut_slice(),
+        words,
+        number,
+        job % MADE_CHARMAPS,
+        first,
+    );
+    bytes.truncate(end);
     Ok(bytes)
 }

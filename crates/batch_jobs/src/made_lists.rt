@@ -1,6 +1,7 @@
 //! The configuration and the jobs of a large input that the program makes itself.
 
 ghost use Rattle.std.specs.Prelude.{◌≡◌, ◌≤◌, ◌++◌, ◌*◌, ◌+◌, ◌%◌, IfOk, OnOk};
+ghost use Rattle.batch_jobs.specs.Limits.{made_jobs};
 ghost use Rattle.batch_jobs.specs.Generated.{all_bindings, all_modules, binding_line, bindings_text, job_line, jobs_text, module_lines, modules_text};
 
 use crate::limits::{MADE_CHARMAPS, MADE_JOBS};
@@ -66,7 +67,7 @@ pub(crate) fn bindings_text(alloc: Global) -> Result<Vec<u8>, AllocError>
 
 /// Appends a job between two sets.
 fn add_job(alloc: Global, text: &mut Vec<u8>, job: u32) -> Result<(), AllocError>
-    requires { job ≤ MADE_JOBS }
+    requires { job ≤ made_jobs }
     ensures { OnOk result (text.new.items ≡ text.old.items ++ job_line job) }
 {
     let from = job % MADE_CHARMAPS;

@@ -1,9 +1,9 @@
 //! The report of a batch.
 
 ghost use Rattle.std.specs.Prelude.{◌≡◌, ◌++◌, ◌≤◌, OnOk, IfOk, length};
+ghost use Rattle.batch_jobs.specs.Limits.{most_jobs};
 ghost use Rattle.batch_jobs.specs.Reports.{good_count, outcome_text, report_from, report_line, report_of, sum_line, sum_report_of, summary};
 
-use crate::limits::MOST_JOBS;
 use crate::numbers::{add_at, add_number};
 use crate::outcomes::{Outcome, is_good};
 use crate::refusal_texts::add_refusal;
@@ -51,7 +51,7 @@ pub fn report_line(alloc: Global, number: u32, outcome: &Outcome) -> Result<Vec<
 
 /// The lines of all jobs, which count from 1.
 fn lines(alloc: Global, outcomes: &[Outcome]) -> Result<Vec<u8>, AllocError>
-    requires { length outcomes.now ≤ MOST_JOBS }
+    requires { length outcomes.now ≤ most_jobs }
     ensures { IfOk result (λ text. text.items ≡ report_from 1 outcomes.now) }
 {
     let mut text = Vec::new(alloc);
@@ -110,7 +110,7 @@ pub fn report(
     read: u64,
     written: u64,
 ) -> Result<Vec<u8>, AllocError>
-    requires { length outcomes.now ≤ MOST_JOBS }
+    requires { length outcomes.now ≤ most_jobs }
     ensures { IfOk result (λ text. text.items ≡ report_of outcomes.now read written) }
 {
     let mut text = lines(alloc, outcomes)?;

@@ -2,7 +2,7 @@
 
 ghost use Rattle.std.specs.Prelude.{◌≡◌, ◌≤◌, ℕ, option_map};
 ghost use Rattle.outside.specs.Moments.{Outside};
-ghost use Rattle.batch_jobs.specs.declared.limits.TheConstants.{MOST_NUMBER};
+ghost use Rattle.batch_jobs.specs.Limits.{most_number};
 ghost use Rattle.batch_words.specs.Asked.{Generated};
 ghost use Rattle.batch_runs.specs.Endings.{status_of};
 ghost use Rattle.batch_runs.specs.Runs.{RanFor};
@@ -31,7 +31,7 @@ pub fn run_made<M: Runtime<Library = SureLibrary>, L: Library, O: Sink>(
     library: L,
     out: &mut O,
 ) -> Ended<L>
-    requires number { number ≤ MOST_NUMBER }
+    requires number { number ≤ most_number }
     ensures status { result.status ≡ status_of result.cause }
     ensures ran { (workers : ℕ) (files : Outside) → RanFor
         (record {
@@ -98,7 +98,7 @@ pub fn run_made_with_workers<
     library: L,
     out: &mut O,
 ) -> Ended<L>
-    requires number { number ≤ MOST_NUMBER }
+    requires number { number ≤ most_number }
     requires some { 1 ≤ count }
     requires most { count ≤ most_callers }
     ensures status { result.status ≡ status_of result.cause }

@@ -5,7 +5,7 @@ ghost use Rattle.text_lines.specs.Limits.{longest_text};
 ghost use Rattle.modules_conf.specs.Modules.{conf_of};
 ghost use Rattle.modules_conf.specs.Bindings.{bindings_of};
 ghost use Rattle.modules_conf.specs.Limits.{AreSound, IsWithinLimits};
-ghost use Rattle.batch_jobs.specs.declared.limits.TheConstants.{MOST_JOBS};
+ghost use Rattle.batch_jobs.specs.Limits.{most_jobs};
 ghost use Rattle.batch_jobs.specs.Jobs.{HasShortNames, jobs_of, line_of};
 
 use batch_jobs::{Job, read_jobs};
@@ -41,7 +41,7 @@ pub fn read_made(
     ensures jobs { IfOk result (λ r. jobs_of jobs.now ≡ Ok (map line_of r.jobs.items)) }
     ensures limits { IfOk result (λ r. IsWithinLimits r.conf.edges) }
     ensures sound { IfOk result (λ r. AreSound r.bindings) }
-    ensures few { IfOk result (λ r. length r.jobs.items ≤ MOST_JOBS) }
+    ensures few { IfOk result (λ r. length r.jobs.items ≤ most_jobs) }
     ensures names { IfOk result (λ r. All HasShortNames r.jobs.items) }
 {
     if !is_short(modules) || !is_short(bindings) || !is_short(jobs) {

@@ -1,7 +1,7 @@
 //! The jobs of a run with workers, to its end.
 
 ghost use Rattle.std.specs.Prelude.{◌≡◌, ◌≤◌, All, length, map, option_map};
-ghost use Rattle.batch_jobs.specs.declared.limits.TheConstants.{MOST_JOBS};
+ghost use Rattle.batch_jobs.specs.Limits.{most_jobs};
 ghost use Rattle.batch_jobs.specs.Jobs.{HasShortNames, line_of};
 ghost use Rattle.batch_runs.specs.Batches.{report_by};
 ghost use Rattle.batch_runs.specs.Endings.{EndsBy, status_of};
@@ -57,7 +57,7 @@ pub fn run_jobs<S: Shared + Sync, G: Gate + Sync, F: Files, O: Sink, R: Threads 
     requires roll { S.roll lead ≡ empty_roll }
     requires some { 1 ≤ count }
     requires most { count ≤ most_callers }
-    requires few { length jobs.now ≤ MOST_JOBS }
+    requires few { length jobs.now ≤ most_jobs }
     requires names { All HasShortNames jobs.now }
     ensures status { result.status ≡ status_of result.cause }
     ensures ended { EndsBy

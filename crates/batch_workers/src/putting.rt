@@ -1,7 +1,7 @@
 //! The outputs of a run with workers, in the order of the jobs.
 
 ghost use Rattle.std.specs.Prelude.{◌≡◌, ◌≤◌, ◌*◌, length, map, IfOk, OnErr, MatchResult};
-ghost use Rattle.batch_jobs.specs.declared.limits.TheConstants.{MOST_JOBS};
+ghost use Rattle.batch_jobs.specs.Limits.{most_jobs};
 ghost use Rattle.batch_jobs.specs.Jobs.{line_of};
 ghost use Rattle.batch_alone.specs.Readings.{length_made, taking_of, work_of};
 ghost use Rattle.batch_workers.specs.Toils.{AreHeld, IsHeld, most_made, work_in, works_in};
@@ -74,7 +74,7 @@ pub fn put_all<F: Files>(
 ) -> Result<Settled, AllocError>
     requires alike { length inputs.now ≡ length jobs.now }
     requires slots { length slots.old ≡ length jobs.now }
-    requires few { length jobs.now ≤ MOST_JOBS }
+    requires few { length jobs.now ≤ most_jobs }
     requires held { AreHeld (map taking_of inputs.now) slots.old }
     ensures done { MatchResult result
         (λ s. ArePutAll (F.outside files.old) (F.outside files.new) (map line_of jobs.now)

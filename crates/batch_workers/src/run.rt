@@ -2,7 +2,7 @@
 
 ghost use Rattle.std.specs.Prelude.{◌≡◌, ◌≤◌, All, length, map, option_map};
 ghost use Rattle.modules_conf.specs.Limits.{AreSound, IsWithinLimits};
-ghost use Rattle.batch_jobs.specs.declared.limits.TheConstants.{MOST_JOBS};
+ghost use Rattle.batch_jobs.specs.Limits.{most_jobs};
 ghost use Rattle.batch_jobs.specs.Jobs.{HasShortNames, line_of};
 ghost use Rattle.batch_words.specs.Asked.{Texts};
 ghost use Rattle.batch_runs.specs.Endings.{status_of};
@@ -40,7 +40,7 @@ pub fn run_with_workers<
     requires most { count ≤ most_callers }
     requires limits { IsWithinLimits aim.conf.now.edges }
     requires sound { AreSound aim.bindings.now }
-    requires few { length aim.jobs.now ≤ MOST_JOBS }
+    requires few { length aim.jobs.now ≤ most_jobs }
     requires names { All HasShortNames aim.jobs.now }
     ensures status { result.status ≡ status_of result.cause }
     ensures started { IsStartedWith

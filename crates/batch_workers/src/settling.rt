@@ -1,7 +1,7 @@
 //! From the jobs of a run with workers to its report.
 
 ghost use Rattle.std.specs.Prelude.{◌≡◌, ◌≤◌, [], IfOk, length, map, All, MatchResult};
-ghost use Rattle.batch_jobs.specs.declared.limits.TheConstants.{MOST_JOBS};
+ghost use Rattle.batch_jobs.specs.Limits.{most_jobs};
 ghost use Rattle.batch_jobs.specs.Jobs.{HasShortNames, line_of};
 ghost use Rattle.batch_runs.specs.Takings.{read_count};
 ghost use Rattle.batch_alone.specs.Readings.{taking_of};
@@ -43,7 +43,7 @@ pub fn do_jobs<S: Shared + Sync, G: Gate + Sync, F: Files, R: Threads + Wait + S
     requires roll { S.roll lead.old ≡ empty_roll }
     requires some { 1 ≤ count }
     requires most { count ≤ most_callers }
-    requires few { length jobs.now ≤ MOST_JOBS }
+    requires few { length jobs.now ≤ most_jobs }
     requires names { All HasShortNames jobs.now }
     ensures leads { S.leads shared.now lead.new }
     ensures home { (S.roll lead.new).away ≡ [] }
@@ -89,7 +89,7 @@ pub fn settle<F: Files>(
     sums: bool,
 ) -> Result<Reported, AllocError>
     requires alike { length worked.inputs.list.items ≡ length jobs.now }
-    requires few { length jobs.now ≤ MOST_JOBS }
+    requires few { length jobs.now ≤ most_jobs }
     requires held { AreHeld (map taking_of worked.inputs.list.items) worked.slots.items }
     requires read { worked.inputs.read ≡ read_count (map taking_of worked.inputs.list.items) }
     ensures done { MatchResult result

@@ -3,7 +3,7 @@
 ghost use Rattle.std.specs.Prelude.{◌≡◌, ◌≤◌, [], length, map, All, IfOk, MatchResult};
 ghost use Rattle.text_lines.specs.Limits.{longest_text};
 ghost use Rattle.job_board.specs.Drawers.{IsLead, away_from, drawn_by, is_drained, numbers_of};
-ghost use Rattle.batch_jobs.specs.declared.limits.TheConstants.{MOST_JOBS};
+ghost use Rattle.batch_jobs.specs.Limits.{most_jobs};
 ghost use Rattle.batch_jobs.specs.Jobs.{HasShortNames, line_of};
 ghost use Rattle.batch_runs.specs.Takings.{length_taken};
 ghost use Rattle.batch_alone.specs.Readings.{taking_of};
@@ -27,7 +27,7 @@ use std::thread::Threads;
 
 /// The places of the jobs whose input was taken.
 fn taken_places(alloc: Global, inputs: &[Input]) -> Result<Vec<u32>, AllocError>
-    requires { length inputs.now ≤ MOST_JOBS }
+    requires { length inputs.now ≤ most_jobs }
     ensures { IfOk result (λ v. v.items ≡ taken_places (map taking_of inputs.now)) }
 {
     let mut places = Vec::new(alloc);
@@ -99,7 +99,7 @@ pub fn share_jobs<S: Shared + Sync, G: Gate + Sync, R: Threads + Wait + Sync>(
     requires some { 1 ≤ count }
     requires most { count ≤ most_callers }
     requires alike { length inputs.now ≡ length jobs.now }
-    requires few { length jobs.now ≤ MOST_JOBS }
+    requires few { length jobs.now ≤ most_jobs }
     requires names { All HasShortNames jobs.now }
     requires short { All (λ i. length_taken (taking_of i) ≤ longest_text) inputs.now }
     ensures leads { S.leads shared.now lead.new }

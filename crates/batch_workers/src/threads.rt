@@ -2,7 +2,7 @@
 
 ghost use Rattle.std.specs.Prelude.{◌≡◌, ◌≤◌, ◌<◌, ℕ, length, map, All, slice_index_or};
 ghost use Rattle.text_lines.specs.Limits.{longest_text};
-ghost use Rattle.batch_jobs.specs.declared.limits.TheConstants.{MOST_JOBS};
+ghost use Rattle.batch_jobs.specs.Limits.{most_jobs};
 ghost use Rattle.batch_jobs.specs.Jobs.{HasShortNames, line_of};
 ghost use Rattle.batch_runs.specs.Takings.{length_taken};
 ghost use Rattle.batch_alone.specs.Readings.{taking_of};
@@ -32,7 +32,7 @@ pub fn work_in_threads<S: Shared + Sync, G: Gate + Sync, R: Threads + Wait + Syn
     workers: &mut [Worker<S::Caller>],
 )
     requires alike { length inputs.now ≡ length jobs.now }
-    requires few { length jobs.now ≤ MOST_JOBS }
+    requires few { length jobs.now ≤ most_jobs }
     requires names { All HasShortNames jobs.now }
     requires short { All (λ i. length_taken (taking_of i) ≤ longest_text) inputs.now }
     requires can { All (CanWork S.part (S.knows shared.now) board.now) workers.old }
@@ -48,7 +48,7 @@ pub fn work_in_threads<S: Shared + Sync, G: Gate + Sync, R: Threads + Wait + Syn
             threads,
             &|_, worker|
                 requires alike { length inputs.now ≡ length jobs.now }
-                requires few { length jobs.now ≤ MOST_JOBS }
+                requires few { length jobs.now ≤ most_jobs }
                 requires names { All HasShortNames jobs.now }
                 requires short { All (λ i. length_taken (taking_of i) ≤ longest_text) inputs.now }
                 requires can { CanWork S.part (S.knows shared.now) board.now worker.old }

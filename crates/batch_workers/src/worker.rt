@@ -2,7 +2,7 @@
 
 ghost use Rattle.std.specs.Prelude.{◌≡◌, ◌≤◌, ◌<◌, true, false, length, map, All, MatchResult};
 ghost use Rattle.text_lines.specs.Limits.{longest_text};
-ghost use Rattle.batch_jobs.specs.declared.limits.TheConstants.{MOST_JOBS};
+ghost use Rattle.batch_jobs.specs.Limits.{most_jobs};
 ghost use Rattle.batch_jobs.specs.Jobs.{HasShortNames, line_of};
 ghost use Rattle.batch_runs.specs.Takings.{Got, length_taken};
 ghost use Rattle.batch_alone.specs.Readings.{taking_of};
@@ -43,7 +43,7 @@ fn serve<S: Shared, G: Gate, R: Wait>(
     input: &[u8],
     worker: &mut Worker<S::Caller>,
 ) -> Result<(), AllocError>
-    requires few { place < MOST_JOBS }
+    requires few { place < most_jobs }
     requires knows { S.knows shared.now worker.old.caller }
     requires names { HasShortNames job.now }
     requires short { length input.now ≤ longest_text }
@@ -95,7 +95,7 @@ fn serve_at<S: Shared, G: Gate, R: Wait>(
     worker: &mut Worker<S::Caller>,
 ) -> Result<(), AllocError>
     requires alike { length inputs.now ≡ length jobs.now }
-    requires few { length jobs.now ≤ MOST_JOBS }
+    requires few { length jobs.now ≤ most_jobs }
     requires names { All HasShortNames jobs.now }
     requires short { All (λ i. length_taken (taking_of i) ≤ longest_text) inputs.now }
     requires knows { S.knows shared.now worker.old.caller }
@@ -142,7 +142,7 @@ pub fn work_all<S: Shared, G: Gate, R: Wait>(
     worker: &mut Worker<S::Caller>,
 )
     requires alike { length inputs.now ≡ length jobs.now }
-    requires few { length jobs.now ≤ MOST_JOBS }
+    requires few { length jobs.now ≤ most_jobs }
     requires names { All HasShortNames jobs.now }
     requires short { All (λ i. length_taken (taking_of i) ≤ longest_text) inputs.now }
     requires can { CanWork S.part (S.knows shared.now) board.now worker.old }
