@@ -9,6 +9,10 @@
 //! bytes NAME HEX             appends bytes; no bytes are written as -
 //! size NAME N                appends letters, so that the file has N bytes
 //! fail files|charmaps|output N       the Nth call of these is to fail
+//! hold JOB POINT until JOB POINT     in the next run, who comes to a point (taken, opened or ended) with a
+//!                            job is held until somebody came to the other one
+//! journal whole|letters|count        how journals are written: as they are, with letters for two callers,
+//!                            or as the number of entries
 //! run WORD..                 runs the program's words: the status and its cause, what was written, the
 //!                            entries of the journal, and the charmaps that were asked for
 //! show NAME   text NAME      what the files of the last run hold under a name, as bytes or as lines
@@ -16,6 +20,8 @@
 #![tactic(auto)]
 
 mod hex;
+mod holds;
+mod journals;
 mod ran;
 mod setup;
 mod shown;
@@ -56,7 +62,7 @@ fn step<R: AllocGlobal + Threads + Wait + Sync>(
         return Ok(());
     }
     if words[0] == "run" {
-        let left = ran(threads, &state.setup, &words[1..])?;
+        let left = ran(threads, &mut state.setup, &words[1..])?;
         state.files = Some(left.files);
         println!(rt; "{line}{}", left.text)?;
         return Ok(());

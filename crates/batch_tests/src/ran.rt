@@ -1,20 +1,19 @@
 //! Runs, and what they leave.
 
+use crate::holds::Holds;
+use crate::journals::add_journal;
 use crate::setup::Setup;
 use crate::shown::add_lines;
 use anyhow::Result;
 use batch_alone::Ended;
-use batch_jobs::journal_text;
 use batch_whole::run;
 use outside::{Files, Library, ShelfFiles, ShelfLibrary, Sink};
-use runtime_histories::Entry;
 use std::alloc::{AllocError, Global};
+use std::mem;
 use std::sync::Wait;
 use std::thread::Threads;
 
-/// A journal of more entries isn't written, nor an output of more lines.
-const MOST_ENTRIES: usize = 16;
-
+/// An output of more lines isn't written.
 const MOST_LINES: usize = 32;
 
 /// The files that a run left, and what it tells.
@@ -30,9 +29,10 @@ fn run_words<R: AllocGlobal + Threads + Wait + Sync, F: Files, L: Library + Send
     words: &[String],
     files: &mut F,
     library: L,
+    gate: &Holds,
     out: &mut O,
 ) -> Ended<L> {
-    run(rt, words, files, library, out)
+    run(rt, words, files, library, gate, out)
 }
 
 /// The words as texts of their own.
@@ -70,20 +70,10 @@ fn add_written(text: &mut String, bytes: &[u8]) -> Result<(), AllocError> {
     Ok(())
 }
 
-/// Appends the lines of a journal, or how many entries it has where they are many.
-fn add_journal(alloc: Global, text: &mut String, entries: &[Entry]) -> Result<(), AllocError> {
-    let count = entries.len();
-    if count > MOST_ENTRIES {
-        return write!(text, "\n    journal of {count}");
-    }
-    text.push_str("\n    journal")?;
-    add_lines(text, journal_text(alloc, entries)?.as_slice())
-}
-
 /// Runs words, and tells what came of it.
 pub fn ran<R: AllocGlobal + Threads + Wait + Sync>(
     rt: &R,
-    setup: &Setup,
+    setup: &mut Setup,
     words: &[&str],
 ) -> Result<Left> {
     let alloc = rt.alloc();
@@ -91,15 +81,19 @@ pub fn ran<R: AllocGlobal + Threads + Wait + Sync>(
     let mut files = setup.files(alloc)?;
     let mut out = setup.output(alloc)?;
     let library = setup.library(alloc)?;
+    let gate = mem::replace(&mut setup.gate, Holds::new(alloc));
     let Ended {
         status,
         cause,
         library,
         journal,
-    } = run_words(rt, words.as_slice(), &mut files, library, &mut out);
+    } = run_words(rt, words.as_slice(), &mut files, library, &gate, &mut out);
     let mut text = format!(in alloc; "\n    status {status} {cause:?}")?;
     add_written(&mut text, out.written())?;
-    add_journal(alloc, &mut text, journal.as_slice())?;
+    add_journal(alloc, &mut text, setup.form, journal.as_slice())?;
     add_reads(&mut text, &library)?;
+    if gate.was_in_vain() {
+        text.push_str("\n    somebody was held in vain")?;
+    }
     Ok(Left { files, text })
 }

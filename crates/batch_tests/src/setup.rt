@@ -1,7 +1,10 @@
-//! What a run is made of: files, and which calls are to fail.
+//! What a run is made of: files, which calls are to fail, and where workers are held.
 
 use crate::hex::bytes_of;
-use anyhow::{Context, Result};
+use crate::holds::{Holds, Place};
+use crate::journals::Form;
+use anyhow::{Context, Result, bail};
+use batch_workers::Point;
 use outside::{ShelfFiles, ShelfLibrary, ShelfSink};
 use std::alloc::{AllocError, Global};
 
@@ -22,12 +25,36 @@ pub struct Setup {
     failing_files: Vec<u32>,
     failing_charmaps: Vec<u32>,
     failing_output: Vec<u32>,
+    pub gate: Holds,
+    pub form: Form,
 }
 
 /// The number of a word.
 fn number(word: &str) -> Result<u32> {
     word.parse::<u32>()
         .context(format_args!("{word:?} is no number"))
+}
+
+/// The place of two words.
+fn place(job: &str, point: &str) -> Result<Place> {
+    let job = number(job)?;
+    let point = match point {
+        "taken" => Point::Taken,
+        "opened" => Point::Opened,
+        "ended" => Point::Ended,
+        _ => bail!("this is no point"),
+    };
+    Ok(Place { job, point })
+}
+
+/// The form of a word.
+fn form(word: &str) -> Result<Form> {
+    match word {
+        "whole" => Ok(Form::Whole),
+        "letters" => Ok(Form::Letters),
+        "count" => Ok(Form::Count),
+        _ => bail!("this is no form"),
+    }
 }
 
 /// The place of the file of a name, which is made where there is none.
@@ -72,6 +99,8 @@ impl Setup {
             failing_files: Vec::new(alloc),
             failing_charmaps: Vec::new(alloc),
             failing_output: Vec::new(alloc),
+            gate: Holds::new(alloc),
+            form: Form::Whole,
         }
     }
 
@@ -107,10 +136,9 @@ impl Setup {
         Ok(())
     }
 
-    /// Takes a line that is for a run to come; the answer says whether it is one.
-    pub fn takes(&mut self, alloc: Global, words: &[&str]) -> Result<bool> {
+    /// Takes a line that appends to a file; the answer says whether it is one.
+    fn takes_bytes(&mut self, alloc: Global, words: &[&str]) -> Result<bool> {
         match *words {
-            ["forget"] => *self = Setup::new(alloc),
             ["line", name, ..] => {
                 let line = line_of(alloc, &words[2..])?;
                 self.append(alloc, name, line.as_slice(), 1)?
@@ -121,10 +149,32 @@ impl Setup {
             }
             ["bytes", name, hex] => self.append(alloc, name, bytes_of(alloc, hex)?.as_slice(), 1)?,
             ["size", name, size] => self.fill(alloc, name, number(size)? as usize)?,
-            ["fail", "files", at] => self.failing_files.push(number(at)?)?,
-            ["fail", "charmaps", at] => self.failing_charmaps.push(number(at)?)?,
-            ["fail", "output", at] => self.failing_output.push(number(at)?)?,
             _ => return Ok(false),
+        }
+        Ok(true)
+    }
+
+    /// Takes which call of what is to fail.
+    fn fail(&mut self, what: &str, at: u32) -> Result<()> {
+        let pushed = match what {
+            "files" => self.failing_files.push(at),
+            "charmaps" => self.failing_charmaps.push(at),
+            "output" => self.failing_output.push(at),
+            _ => bail!("nothing else may fail"),
+        };
+        Ok(pushed?)
+    }
+
+    /// Takes a line that is for a run to come; the answer says whether it is one.
+    pub fn takes(&mut self, alloc: Global, words: &[&str]) -> Result<bool> {
+        match *words {
+            ["forget"] => *self = Setup::new(alloc),
+            ["fail", what, at] => self.fail(what, number(at)?)?,
+            ["hold", job, at, "until", other, there] => {
+                self.gate.add(place(job, at)?, place(other, there)?)?
+            }
+            ["journal", word] => self.form = form(word)?,
+            _ => return self.takes_bytes(alloc, words),
         }
         Ok(true)
     }

@@ -82,6 +82,7 @@ pub fn run_made<M: Runtime<Library = SureLibrary>, L: Library, O: Sink>(
 
 /// The same with so many workers.
 pub fn run_made_with_workers<
+    M: Runtime<Library = SureLibrary>,
     N: Shared<Library = SureLibrary> + Sync,
     L: Library,
     G: Gate + Sync,
@@ -140,7 +141,7 @@ pub fn run_made_with_workers<
         cause,
         library: _charmaps,
         journal,
-    } = run_with_workers::<N, G, SureFiles, O, R>(
+    } = run_with_workers::<SureLibrary, M, N, G, SureFiles, O, R>(
         rt, alloc, aim, count, gate, &mut files, charmaps, out,
     );
     Ended {

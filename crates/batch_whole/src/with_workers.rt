@@ -22,6 +22,7 @@ use std::thread::Threads;
 fn run_shared_plan<
     L: Library + Send,
     B: Runtime<Library = L>,
+    M: Runtime<Library = SureLibrary>,
     S: Shared<Library = L> + Sync,
     N: Shared<Library = SureLibrary> + Sync,
     F: Files,
@@ -55,7 +56,7 @@ fn run_shared_plan<
             bindings,
             charmaps,
             jobs,
-        } => run_texts_with_workers::<S, G, F, O, R>(
+        } => run_texts_with_workers::<L, B, S, G, F, O, R>(
             rt,
             alloc,
             modules.as_str(),
@@ -87,7 +88,7 @@ fn run_shared_plan<
             library,
             out,
         ),
-        PlanSource::Generated { number } => run_made_with_workers::<N, L, G, O, R>(
+        PlanSource::Generated { number } => run_made_with_workers::<M, N, L, G, O, R>(
             rt, alloc, *number, pages, file, count, gate, library, out,
         ),
     }
@@ -128,7 +129,7 @@ pub fn run_words_with_workers<
     if words.workers == 0 {
         return run_plan::<B, M, F, O>(alloc, &words.plan, files, library, out);
     }
-    run_shared_plan::<L, B, S, N, F, G, O, R>(
+    run_shared_plan::<L, B, M, S, N, F, G, O, R>(
         rt,
         alloc,
         &words.plan,

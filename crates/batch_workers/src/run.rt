@@ -13,15 +13,18 @@ ghost use Rattle.batch_workers.specs.Starts.{IsStartedWith};
 use crate::finish::{end_short, run_jobs};
 use crate::gate::Gate;
 use crate::shared::Shared;
-use batch_alone::{Aim, Ended, MOST_ENTRIES, prepare, status_of, tell_stop};
-use outside::{Files, Sink};
+use batch_alone::{Aim, Ended, MOST_ENTRIES, Runtime, prepare, run_prepared, status_of, tell_stop};
+use outside::{Files, Library, Sink};
 use std::alloc::Global;
 use std::sync::Wait;
 use std::thread::Threads;
 
-/// Starts a runtime, and does the jobs of a run with so many workers.
+/// Starts a runtime, and does the jobs of a run with so many workers. A list of one job is done by the
+/// asking thread alone, which asks less of the machine than a worker does.
 pub fn run_with_workers<
-    S: Shared + Sync,
+    L: Library + Send,
+    B: Runtime<Library = L>,
+    S: Shared<Library = L> + Sync,
     G: Gate + Sync,
     F: Files,
     O: Sink,
@@ -33,9 +36,9 @@ pub fn run_with_workers<
     count: u32,
     gate: &G,
     files: &mut F,
-    library: S::Library,
+    library: L,
     out: &mut O,
-) -> Ended<S::Library>
+) -> Ended<L>
     requires some { 1 ≤ count }
     requires most { count ≤ most_callers }
     requires limits { IsWithinLimits aim.conf.now.edges }
@@ -56,16 +59,19 @@ pub fn run_with_workers<
         count
         (record {
           files = F.outside files.old;
-          library = S.Library.holdings library;
+          library = L.holdings library;
           sink = O.written out.old;
         })
         (record {
           files = F.outside files.new;
-          library = S.Library.holdings result.library;
+          library = L.holdings result.library;
           sink = O.written out.new;
         })
         result.cause result.journal.items }
 {
+    if aim.jobs.len() <= 1 {
+        return run_prepared::<B, F, O>(alloc, aim, files, library, out);
+    }
     let Aim {
         conf,
         bindings,
@@ -94,7 +100,9 @@ pub fn run_with_workers<
 
 /// Does the jobs of three texts with so many workers.
 pub fn run_texts_with_workers<
-    S: Shared + Sync,
+    L: Library + Send,
+    B: Runtime<Library = L>,
+    S: Shared<Library = L> + Sync,
     G: Gate + Sync,
     F: Files,
     O: Sink,
@@ -111,9 +119,9 @@ pub fn run_texts_with_workers<
     count: u32,
     gate: &G,
     files: &mut F,
-    library: S::Library,
+    library: L,
     out: &mut O,
-) -> Ended<S::Library>
+) -> Ended<L>
     requires some { 1 ≤ count }
     requires most { count ≤ most_callers }
     ensures status { result.status ≡ status_of result.cause }
@@ -126,12 +134,12 @@ pub fn run_texts_with_workers<
         })
         (record {
           files = F.outside files.old;
-          library = S.Library.holdings library;
+          library = L.holdings library;
           sink = O.written out.old;
         })
         (record {
           files = F.outside files.new;
-          library = S.Library.holdings result.library;
+          library = L.holdings result.library;
           sink = O.written out.new;
         })
         result.cause result.journal.items }
@@ -157,5 +165,5 @@ pub fn run_texts_with_workers<
         file,
         sums: false,
     };
-    run_with_workers::<S, G, F, O, R>(rt, alloc, aim, count, gate, files, library, out)
+    run_with_workers::<L, B, S, G, F, O, R>(rt, alloc, aim, count, gate, files, library, out)
 }

@@ -4,6 +4,7 @@
 use batch_alone::Ended;
 use batch_whole::{end_memory, end_usage, run};
 use batch_words::Refusal;
+use batch_workers::OpenGate;
 use outside::{DirLibrary, DiskFiles, StdoutSink};
 use std::env;
 use std::io::ErrorKind;
@@ -35,7 +36,14 @@ fn main(rt: HostRuntime) -> ExitCode {
         library: _library,
         journal: _journal,
     } = match read_words(&rt) {
-        Ok(words) => run(&rt, words.as_slice(), &mut files, library, &mut out),
+        Ok(words) => run(
+            &rt,
+            words.as_slice(),
+            &mut files,
+            library,
+            &OpenGate,
+            &mut out,
+        ),
         Err(Refusal::Usage) => end_usage(rt.alloc(), library, &mut out),
         Err(Refusal::Memory) => end_memory(rt.alloc(), library, &mut out),
     };

@@ -15,8 +15,8 @@ returns-in-Err-clause-ran g c =
       journal = option_map (λ s. s.now) c.args.file;
       workers = c.args.count;
     } in
-    let old : World = record { files = g.F.Files.outside c.args.files.now; library = g.S.Library.Library.holdings c.args.library; sink = g.O.Sink.written c.args.out.now } in
-    let new : World = record { files = g.F.Files.outside c.prepare.new.files; library = g.S.Library.Library.holdings c.args.library; sink = g.O.Sink.written c.tell_stop-cause.new.out } in
+    let old : World = record { files = g.F.Files.outside c.args.files.now; library = g.L.Library.holdings c.args.library; sink = g.O.Sink.written c.args.out.now } in
+    let new : World = record { files = g.F.Files.outside c.prepare.new.files; library = g.L.Library.holdings c.args.library; sink = g.O.Sink.written c.tell_stop-cause.new.out } in
     stops_for q old new c.tell_stop-cause.result c.new.result.items c.in-Err.halt c.in-Err.ensures.read c.tell_stop-cause.ensures
     (record { told = c.prepare.ensures.told; puts = c.prepare.ensures.puts; library = refl; empty = c.new.ensures.items }) c.in-Err.ensures.failed
 
@@ -29,9 +29,9 @@ returns-clause-ran g c =
       workers = c.args.count;
     } in
     let ready = c.in-Ok.ensures.read in
-    let old : World = record { files = g.F.Files.outside c.args.files.now; library = g.S.Library.Library.holdings c.args.library; sink = g.O.Sink.written c.args.out.now } in
-    let mid : World = record { files = g.F.Files.outside c.prepare.new.files; library = g.S.Library.Library.holdings c.args.library; sink = g.O.Sink.written c.args.out.now } in
-    let new : World = record { files = g.F.Files.outside c.run_with_workers.new.files; library = g.S.Library.Library.holdings c.run_with_workers.result.library; sink = g.O.Sink.written c.run_with_workers.new.out } in
+    let old : World = record { files = g.F.Files.outside c.args.files.now; library = g.L.Library.holdings c.args.library; sink = g.O.Sink.written c.args.out.now } in
+    let mid : World = record { files = g.F.Files.outside c.prepare.new.files; library = g.L.Library.holdings c.args.library; sink = g.O.Sink.written c.args.out.now } in
+    let new : World = record { files = g.F.Files.outside c.run_with_workers.new.files; library = g.L.Library.holdings c.run_with_workers.result.library; sink = g.O.Sink.written c.run_with_workers.new.out } in
     let took : OnlyTook old mid = record {
       told = c.prepare.ensures.told;
       puts = c.prepare.ensures.puts;
