@@ -2,8 +2,8 @@ use Rattle.gconv_runtime.specs.Tokens.{Leads}
 use Rattle.gconv_tests.specs.Seats.{Sits}
 use Rattle.gconv_tests.proofs.acts.play.Given as goal
 
-abbrev pub invariant-loop : goal.invariant-loop
-invariant-loop g l = record {
+abbrev pub invariant-loop-line : goal.invariant-loop-line
+invariant-loop-line g l = record {
   lead : Leads l.gconv l.lead;
   one : Sits l.gconv l.one;
   two : Sits l.gconv l.two;
