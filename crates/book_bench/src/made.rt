@@ -4,23 +4,20 @@ use outside::ShelfLibrary;
 use std::alloc::{AllocError, Global};
 
 /// The configuration of so many sets.
-pub fn modules(alloc: Global, sets: u32) -> Result<Vec<u8>, AllocError> {
-    let mut text = Vec::new(alloc);
+pub fn modules(alloc: Global, sets: u32) -> Result<String, AllocError> {
+    let mut text = String::new(alloc);
     for set in 0..sets {
-        let lines = format!(in alloc;
-            "module N{set}// INTERNAL M{set} 1\nmodule INTERNAL N{set}// M{set} 1\n"
-        )?;
-        text.extend_from_slice(lines.as_bytes())?;
+        write!(text, "module N{set}// INTERNAL M{set} 1\n")?;
+        write!(text, "module INTERNAL N{set}// M{set} 1\n")?;
     }
     Ok(text)
 }
 
 /// Its bindings: a table for each set.
-pub fn bindings(alloc: Global, sets: u32) -> Result<Vec<u8>, AllocError> {
-    let mut text = Vec::new(alloc);
+pub fn bindings(alloc: Global, sets: u32) -> Result<String, AllocError> {
+    let mut text = String::new(alloc);
     for set in 0..sets {
-        let line = format!(in alloc; "M{set} table C{set}\n")?;
-        text.extend_from_slice(line.as_bytes())?;
+        write!(text, "M{set} table C{set}\n")?;
     }
     Ok(text)
 }

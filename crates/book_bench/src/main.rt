@@ -14,43 +14,51 @@
 mod made;
 mod measure;
 
-use anyhow::{Context, Result, bail, ensure};
 use measure::{Plan, measure};
 use modules_conf::MOST_LINES;
-use std::env;
 use std::marker::Brand;
+use std::process::ExitCode;
 use std::sync::ledger::Blank;
+use std::{env, io};
 
-/// A number of the command line, from 1 up to a limit.
-fn number(word: &str, most: u32) -> Result<u32> {
-    let number = word
-        .parse::<u32>()
-        .context(format_args!("{word:?} is no number"))?;
-    ensure!(
-        number > 0 && number <= most,
-        "{number} isn't within 1 to {most}"
-    );
-    Ok(number)
+/// A number of the command line, up to a limit.
+fn number(word: &str, most: u32) -> u32 {
+    match word.parse::<u32>() {
+        Ok(number) => number.min(most),
+        Err(_) => 0,
+    }
 }
 
 /// What the words ask for.
-fn asked(words: &[String]) -> Result<Plan> {
+fn asked(words: &[String]) -> Option<Plan> {
     let [_, what, kind, sets, pairs] = words else {
-        bail!("usage: book_bench count|time same|round SETS PAIRS");
+        return None;
     };
-    Ok(Plan {
+    Some(Plan {
         timed: what.as_str() == "time",
         moves: kind.as_str() == "round",
-        sets: number(sets.as_str(), MOST_LINES as u32 / 2)?,
-        pairs: number(pairs.as_str(), 4_000_000)?,
+        sets: number(sets.as_str(), MOST_LINES as u32 / 2),
+        pairs: number(pairs.as_str(), 4_000_000),
     })
 }
 
-fn main(rt: HostRuntime) -> Result<()> {
+/// Does what the words ask for; false where they ask for nothing.
+fn run(rt: &HostRuntime) -> io::Result<bool> {
     let mut words = Vec::new(rt.alloc());
-    for word in env::args(&rt)? {
+    for word in env::args(rt)? {
         words.push(word)?;
     }
-    let plan = asked(words.as_slice())?;
-    measure::<Brand>(&rt, Blank::new(1), &plan)
+    let Some(plan) = asked(words.as_slice()) else {
+        return Ok(false);
+    };
+    measure::<Brand>(rt, Blank::new(1), &plan)?;
+    Ok(true)
+}
+
+fn main(rt: HostRuntime) -> ExitCode {
+    match run(&rt) {
+        Ok(true) => ExitCode::from(0),
+        Ok(false) => ExitCode::from(2),
+        Err(_) => ExitCode::from(1),
+    }
 }
