@@ -4,7 +4,6 @@
 //! charmap_bench check FILE..                        each charmap's size, or its fault
 //! charmap_bench time MAP N                          how long it takes to read and to build
 //! charmap_bench convert MAP TO|FROM FILE N          a text from UTF-8 to the table's set, or back
-//! charmap_bench descriptor MAP TO|FROM FILE N     the same through a descriptor of a runtime
 //! charmap_bench jp ROMAN KANJI TO|FROM FILE N       a text from UTF-8 to ISO-2022-JP, or back
 //! ```
 //!
@@ -12,11 +11,9 @@
 #![tactic(auto)]
 
 mod check;
-mod descriptor;
 mod direction;
 mod measure;
 mod pieces;
-mod starting;
 mod tables;
 mod timing;
 
@@ -24,7 +21,6 @@ use anyhow::{Context, Result, bail};
 use chain_steps::Set;
 use check::check_all;
 use code_table::Owned;
-use descriptor::measure_descriptor;
 use direction::direction_named;
 use measure::measure;
 use std::{env, fs};
@@ -55,20 +51,6 @@ fn convert(rt: &HostRuntime, map: &str, direction: &str, file: &str, times: &str
         input.as_slice(),
         times,
     )
-}
-
-/// Converts a file by one table through a descriptor.
-fn convert_shared(
-    rt: &HostRuntime,
-    map: &str,
-    direction: &str,
-    file: &str,
-    times: &str,
-) -> Result<()> {
-    let direction = direction_named(direction)?;
-    let times = runs(times)?;
-    let input = fs::read(rt, file)?;
-    measure_descriptor(rt, map, direction, input.as_slice(), times)
 }
 
 /// Converts a file by a Roman and a Kanji table.
@@ -108,13 +90,6 @@ fn main(rt: HostRuntime) -> Result<()> {
             file.as_str(),
             times.as_str(),
         ),
-        [_, kind, map, direction, file, times] if kind.as_str() == "descriptor" => convert_shared(
-            &rt,
-            map.as_str(),
-            direction.as_str(),
-            file.as_str(),
-            times.as_str(),
-        ),
         [_, kind, roman, kanji, direction, file, times] if kind.as_str() == "jp" => convert_jp(
             &rt,
             roman.as_str(),
@@ -124,8 +99,6 @@ fn main(rt: HostRuntime) -> Result<()> {
             times.as_str(),
         ),
         all if all.len() > 2 && all[1].as_str() == "check" => check_all(&rt, &all[2..]),
-        _ => bail!(
-            "usage: charmap_bench (check FILE.. | time MAP N | convert .. | descriptor .. | jp ..)"
-        ),
+        _ => bail!("usage: charmap_bench (check FILE.. | time MAP N | convert .. | jp ..)"),
     }
 }

@@ -12,38 +12,13 @@ use code_table::Lookup;
 use std::io;
 use std::time::CpuClock;
 
-/// How many bytes a call may write.
-pub const SCRATCH: usize = 131072;
+const SCRATCH: usize = 131072;
 
 /// What a run gave, and the microseconds that it took.
 #[derive(Clone, Copy)]
-pub struct Run {
-    pub counts: Counts,
-    pub micros: u128,
-}
-
-/// A run that every other one is faster than.
-pub fn no_run() -> Run {
-    Run {
-        counts: Counts {
-            consumed: 0,
-            produced: 0,
-            verdict: Verdict::Done,
-        },
-        micros: u128::MAX,
-    }
-}
-
-/// Writes what a run gave.
-pub fn report(rt: &HostRuntime, run: Run) -> Result<()> {
-    let Counts {
-        consumed,
-        produced,
-        verdict,
-    } = run.counts;
-    println!(rt; "in {consumed} out {produced} {verdict:?}")?;
-    println!(rt; "{} MB/s", consumed as u128 / run.micros.max(1))?;
-    Ok(())
+struct Run {
+    counts: Counts,
+    micros: u128,
 }
 
 /// Converts a text once.
@@ -79,7 +54,14 @@ fn best_run<T: Lookup>(
     requires ready { T.ready tables.old }
     requires range { IsInRange (T.tables tables.old) set }
 {
-    let mut best = no_run();
+    let mut best = Run {
+        counts: Counts {
+            consumed: 0,
+            produced: 0,
+            verdict: Verdict::Done,
+        },
+        micros: u128::MAX,
+    };
     for _ in 0..times {
         let run = run_once(rt, tables, set, direction, input, scratch)?;
         if run.micros < best.micros {
@@ -111,5 +93,12 @@ pub fn measure<T: Lookup>(
         scratch.as_mut_slice(),
         times,
     )?;
-    report(rt, best)
+    let Counts {
+        consumed,
+        produced,
+        verdict,
+    } = best.counts;
+    println!(rt; "in {consumed} out {produced} {verdict:?}")?;
+    println!(rt; "{} MB/s", consumed as u128 / best.micros.max(1))?;
+    Ok(())
 }

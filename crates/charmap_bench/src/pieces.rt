@@ -11,7 +11,7 @@ use std::alloc::Global;
 use step_unicode::Uni;
 
 /// As much of the input as is handed to one call.
-pub const PIECE: usize = 65536;
+const PIECE: usize = 65536;
 
 /// How many bytes a conversion consumed and produced, and why it stopped.
 #[derive(Clone, Copy)]
@@ -39,7 +39,7 @@ fn make_runner<T: Lookup>(alloc: Global, tables: &T, set: Set, direction: Direct
 }
 
 /// The front of some bytes, at most so many.
-pub fn front(rest: &[u8], most: usize) -> &[u8]
+fn front(rest: &[u8], most: usize) -> &[u8]
     ensures { length result.now ≤ length rest.now }
 {
     if most < rest.len() {

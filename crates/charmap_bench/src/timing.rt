@@ -8,7 +8,7 @@ use std::time::{CpuClock, Duration};
 use std::{fs, io};
 
 /// The microseconds of processor time that were used since.
-pub fn micros_since<R: CpuClock>(rt: &R, start: Duration) -> io::Result<u128> {
+pub fn micros_since(rt: &HostRuntime, start: Duration) -> io::Result<u128> {
     Ok(rt.process_cpu_time()?.saturating_sub(start).as_micros())
 }
 

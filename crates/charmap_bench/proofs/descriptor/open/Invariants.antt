@@ -1,4 +1,0 @@
-use Rattle.charmap_bench.proofs.descriptor.open.Given as goal
-
-abbrev pub ghosts-open_with : goal.ghosts-open_with
-ghosts-open_with g a = record { name = a.ledger.name; parts = a.ledger.parts }
