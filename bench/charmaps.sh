@@ -1,6 +1,6 @@
 #!/bin/sh
 # Reads the charmaps of the system's package locales, tells which aren't accepted and why, and measures
-# conversions by three of them in memory, beside iconv(1) and iconv(3) on the same text of 16 MiB.
+# conversions by some of them in memory, beside iconv(1) and iconv(3) on the same text of 16 MiB.
 #
 #   bench/charmaps.sh [PROGRAM]
 #
@@ -56,11 +56,13 @@ SIZE, TIMES = 16 * 2**20, 5
 words = {
     "japanese": "日本語 文字 コード 変換 と は を に が で ひらがな カタカナ 漢字 東京 大阪 今日 明日 世界 、 。",
     "chinese": "中文 字符 编码 转换 的 是 在 了 和 有 我们 世界 北京 上海 今天 明天 汉字 语言 ， 。",
+    "cyrillic": "и в не на я быть он с что а по это она этот к но они мы весь который мочь",
+    "latin": "déjà élève être naïf garçon où façon über Straße schön größer früh Mädchen niño mañana the",
 }
 
 
 def write_text(kind):
-    whole = passage(words[kind], 15, "").encode()
+    whole = passage(words[kind], 15, " " if kind in ("cyrillic", "latin") else "").encode()
     name = f"{folder}/{kind}"
     with open(name, "wb") as out:
         out.write(whole * (SIZE // len(whole)))
@@ -112,6 +114,8 @@ def row(label, command, way, source, target, name, size):
 print(f"{'MB/s, best of ' + str(runs):<26}{'program':>8}{'iconv(1)':>10}{'iconv(3)':>10}{'ratio':>10}{'ratio':>10}")
 jobs = [("EUC-JP", ["convert", f"{folder}/maps/EUC-JP"], "japanese"),
         ("GBK", ["convert", f"{folder}/maps/GBK"], "chinese"),
+        ("KOI8-R", ["convert", f"{folder}/maps/KOI8-R"], "cyrillic"),
+        ("ISO-8859-1", ["convert", f"{folder}/maps/ISO-8859-1"], "latin"),
         ("ISO-2022-JP", ["jp", f"{folder}/maps/JIS_C6220-1969-RO", write_kanji()], "japanese")]
 for charset, command, kind in jobs:
     plain, coded = write_text(kind), f"{folder}/{kind}.{charset}"
