@@ -20,29 +20,34 @@ pub enum Form {
     Count,
 }
 
-/// Appends a line with a letter for its caller. The answer is the caller of the first line.
-fn add_lettered<'a>(
-    text: &mut String,
-    first: &'a str,
-    line: &'a str,
-) -> Result<&'a str, AllocError> {
+/// The caller of a journal's first line; empty where there is none.
+fn first_caller(journal: &str) -> &str {
+    let Some((_, rest)) = journal.split_once(' ') else {
+        return "";
+    };
+    match rest.split_once(' ') {
+        Some((caller, _)) => caller,
+        None => "",
+    }
+}
+
+/// Appends a line with a letter for its caller.
+fn add_lettered(text: &mut String, first: &str, line: &str) -> Result<(), AllocError> {
     let Some((position, rest)) = line.split_once(' ') else {
-        return Ok(first);
+        return Ok(());
     };
     let Some((caller, event)) = rest.split_once(' ') else {
-        return Ok(first);
+        return Ok(());
     };
-    let first = if first.is_empty() { caller } else { first };
     let letter = if caller == first { "A" } else { "B" };
-    write!(text, "\n        {position} {letter} {event}")?;
-    Ok(first)
+    write!(text, "\n        {position} {letter} {event}")
 }
 
 /// Appends the lines of a journal with letters for its callers.
 fn add_letters(text: &mut String, journal: &str) -> Result<(), AllocError> {
-    let mut first = "";
+    let first = first_caller(journal);
     for line in journal.lines() {
-        first = add_lettered(text, first, line)?;
+        add_lettered(text, first, line)?;
     }
     Ok(())
 }
