@@ -1,5 +1,5 @@
 -- Codes of points, one behind another.
-use Rattle.std.proofs.Common.{◌≡◌, ◌+◌, ◌<◌, ℕ, zero, suc, List, [], ◌∷◌, ◌++◌, length, take, drop, get_or, Some, None, Option, refl, sym, ap, ◌∙◌, subst, arith, append_assoc, append-nil}
+use Rattle.std.proofs.Common.{◌≡◌, ◌+◌, ◌<◌, ℕ, List, [], ◌∷◌, ◌++◌, length, take, drop, get_or, Some, Option, refl, sym, ap, ◌∙◌, subst, append_assoc, append-nil}
 use Rattle.std.specs.Prelude.{slice_set, unwrap_or, IsSome}
 use Rattle.std.specs.List.{AllByRecursion, flat_map}
 use Rattle.std.proofs.lemmas.List.{take_more, take_more_set, drop-drop}
@@ -23,17 +23,6 @@ codes_next table points list i d c lt room are is =
     subst (λ ps. AreCodesOf table ps (take (i + 1) (slice_set list i c))) (sym (take_more points i d lt))
     (subst (λ cs. AreCodesOf table (take i points ++ get_or points i d ∷ []) cs) (sym (take_more_set list i c room))
     (codes_more table (take i points) (take i list) (get_or points i d) c are is))
-
-none_some : (o : Option (List ℕ)) → o ≡ None → IsSome o → ⊥
-none_some None e some = cc
-none_some (Some c) e some = cc
-
--- a point without a code is one that the table lacks
-pub lacks_one : (table : Table) (points : List ℕ) (i d : ℕ) → i < length points → code_of table (get_or points i d) ≡ None →
-    AllByRecursion (IsInTable table) points → ⊥
-lacks_one table [] i d lt none all = absurd (omega (arith, lt))
-lacks_one table (p ∷ ps) zero d lt none all = none_some (code_of table p) none all.0
-lacks_one table (p ∷ ps) (suc i) d lt none all = lacks_one table ps i d (omega (arith, lt)) none all.1
 
 -- the codes spell the points, which the table has
 pub codes_spell : (table : Table) (ps : List ℕ) (cs : List (List ℕ)) → AreCodesOf table ps cs → flat_map (λ (c : List ℕ). c) cs ≡ flat_map (spelled table) ps

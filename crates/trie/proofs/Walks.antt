@@ -1,5 +1,5 @@
 -- Walks along words that are a trie's.
-use Rattle.std.proofs.Common.{◌≡◌, ℕ, suc, ◌+◌, ◌-◌, ◌^◌, ◌<◌, ◌≤◌, Bool, true, false, List, [], ◌∷◌, ◌++◌, length, get_or, drop, Option, Some, None, refl, sym, ap, ◌∙◌, inl, inr, arith, length-append, ltb}
+use Rattle.std.proofs.Common.{◌≡◌, ℕ, suc, ◌+◌, ◌^◌, ◌<◌, ◌≤◌, Bool, true, false, List, [], ◌∷◌, ◌++◌, length, get_or, drop, Option, Some, None, refl, sym, ap, ◌∙◌, inl, inr, arith, length-append, ltb}
 use Rattle.std.proofs.lemmas.List.{drop_more}
 use Rattle.std.proofs.lemmas.Bool.{cases_Bool, le-leb, lt-ltb, ltb-true}
 use Rattle.trie.specs.Fronts.{word_at, is_front}
@@ -106,16 +106,4 @@ walk_more ws vs page used next i bs same lt e =
     ap (λ x. walk_words x next (used + 1) (drop (i + 1) bs)) same
     ∙ ap (λ o. walk_step (word_in ws page (get_or bs i 0)) (used + 1) o
     (λ n. walk_words ws n (used + 1) (drop (i + 1) bs))) (sym e)
-    ∙ ap (walk_words ws page used) (sym (drop_more bs i 0 lt))
-
--- a word of a path ends a walk
-pub walk_ends : (ws : List ℕ) (page used i : ℕ) (bs : List ℕ) → i < length bs →
-    2 ^ 62 ≤ word_in ws page (get_or bs i 0) →
-    Word (word_in ws page (get_or bs i 0) - 2 ^ 62) (used + 1) ≡ walk_words ws page used (drop i bs)
-walk_ends ws page used i bs lt hit =
-    let w = word_in ws page (get_or bs i 0) in
-    let next : ℕ → Walk = λ n. walk_words ws n (used + 1) (drop (i + 1) bs) in
-    let is : 2 ^ 62 + (w - 2 ^ 62) ≡ w = omega (arith, hit) in
-    sym (word_step (w - 2 ^ 62) (used + 1) next)
-    ∙ ap (λ x. walk_step x (used + 1) (page_in x) next) is
     ∙ ap (walk_words ws page used) (sym (drop_more bs i 0 lt))
