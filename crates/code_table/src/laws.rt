@@ -1,7 +1,8 @@
 //! What holds of look-ups in every well formed table and of every two of them, and of page images.
 
-ghost use Rattle.std.specs.Prelude.{◌≡◌, ◌*◌, ◌<◌, ◌^◌, ℕ, List, length};
+ghost use Rattle.std.specs.Prelude.{◌≡◌, ◌*◌, ◌<◌, ◌^◌, ℕ, List, length, true};
 ghost use Rattle.code_pairs.specs.Tables.{Table, IsWellFormed};
+ghost use Rattle.code_table.specs.Ascii.{is_ascii, IsAscii};
 ghost use Rattle.code_table.specs.HandsBack.{HandsBack};
 ghost use Rattle.code_table.specs.Images.{root_of, page_count, image};
 ghost use Rattle.code_table.specs.Looks.{look_of, IsLook};
@@ -21,6 +22,12 @@ pub fn looks_tell()
 pub fn hand_back_twice<T: Lookup>()
     ensures { (x y z : T) → HandsBack T.tables T.ready T.kept x y →
         HandsBack T.tables T.ready T.kept y z → HandsBack T.tables T.ready T.kept x z }
+{}
+
+/// Where a table's lower half is ASCII, each of its bytes stands for its own number, and is the code of it.
+#[inline(always)]
+pub fn ascii_tells()
+    ensures { (table : Table) → is_ascii table ≡ true → IsAscii table }
 {}
 
 /// A page image has 256 words a page.

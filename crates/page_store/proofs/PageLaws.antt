@@ -1,5 +1,5 @@
 -- What pins tell of the side words.
-use Rattle.std.proofs.Common.{◌≡◌, ◌+◌, ◌*◌, ◌<◌, ◌≤◌, ◌^◌, ℕ, zero, suc, List, [], ◌∷◌, length}
+use Rattle.std.proofs.Common.{◌≡◌, ◌+◌, ◌*◌, ◌<◌, ◌≤◌, ◌^◌, ℕ, zero, suc, Bool, List, [], ◌∷◌, length}
 use Rattle.std.proofs.Common.{Option, Some, refl, sym, ap, ◌∙◌, subst, arith, true}
 use Rattle.std.specs.Prelude.{slice_index, unwrap_or, IsSome}
 use Rattle.std.specs.List.{AllByRecursion}
@@ -35,10 +35,10 @@ module _ (hs : List Holding) (pages : List ℕ) where
       (e ∙ ap page_count h.table, subst (λ (n : ℕ). n < 2 ^ 32) (sym e) is.few)
 
   -- the page image of a table is there
-  pub pin_image : (words root count : ℕ) (ws : List ℕ) → ((h : Holding) → Among hs h → IsHolding h)
-      → IsPin hs words pages root → count ≡ length pages → ws ≡ image (table_in hs pages)
+  pub pin_image : (words root count : ℕ) (ascii : Bool) (ws : List ℕ) → ((h : Holding) → Among hs h → IsHolding h)
+      → IsPin hs words pages root ascii → count ≡ length pages → ws ≡ image (table_in hs pages)
       → IsImageOf (table_in hs pages) root count ws
-  pin_image words root count ws are pin number is =
+  pin_image words root count ascii ws are pin number is =
       let h = held_is hs pages pin.held in
       let holding = are h.holding h.among in
       let n = pages_count are pin.held in

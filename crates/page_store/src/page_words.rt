@@ -57,6 +57,7 @@ fn layout_of(pin: &Pin) -> Layout
     Layout {
         root: pin.root,
         pages: pin.pages.len() as u32,
+        ascii: pin.ascii,
     }
 }
 
@@ -70,7 +71,7 @@ pub fn code_through<S: PagedStory>(
 ) -> Look
     requires own { IsPassOf hall.now pass.old }
     requires pin { IsPin (holdings_of S.holds hall.now pass.old) (words_of hall.now)
-        pin.now.pages.items pin.now.root }
+        pin.now.pages.items pin.now.root pin.now.ascii }
     ensures value { result
         ≡ look_of (table_in (holdings_of S.holds hall.now pass.old) pin.now.pages.items) bytes.now }
     ensures same { IsSame pass.old pass.new }
@@ -94,7 +95,7 @@ pub fn bytes_through<S: PagedStory>(
 ) -> Option<Code>
     requires own { IsPassOf hall.now pass.old }
     requires pin { IsPin (holdings_of S.holds hall.now pass.old) (words_of hall.now)
-        pin.now.pages.items pin.now.root }
+        pin.now.pages.items pin.now.root pin.now.ascii }
     ensures value { result
         ≡ code_of (table_in (holdings_of S.holds hall.now pass.old) pin.now.pages.items) point }
     ensures same { IsSame pass.old pass.new }

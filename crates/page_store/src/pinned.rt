@@ -4,7 +4,7 @@ use crate::page_words::{bytes_through, code_through};
 use crate::pin::Pin;
 use crate::story::PagedStory;
 use code_pairs::Code;
-use code_table::{Look, Lookup};
+use code_table::{Look, Lookup, ascii_tells};
 use history_core::{Hall, Pass};
 
 /// Tables that a pass holds, each in the pages of a pin. A look-up takes no turn and doesn't wait.
@@ -51,5 +51,11 @@ impl<'a, S: PagedStory> Lookup for Pinned<'a, S> {
         let pin = &self.pins[table as usize];
         let pass = &mut *self.pass;
         bytes_through(self.hall, pass, pin, point)
+    }
+
+    #[inline(always)]
+    fn is_ascii(&self, table: u32) -> bool {
+        ascii_tells();
+        self.pins[table as usize].ascii
     }
 }

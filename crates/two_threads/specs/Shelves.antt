@@ -3,6 +3,7 @@ use Rattle.std.specs.Prelude.{◌≡◌, ◌⊎◌, ℕ, ◌*◌, ◌<◌, ◌^�
 use Rattle.std.specs.Prelude.{if◌then◌else◌, nat_lt, List, [], ◌∷◌, slice_index, Option, Some, None}
 use Rattle.std.specs.List.{range_with_len}
 use Rattle.code_pairs.specs.Tables.{Table, HasPoints, IsWellFormed}
+use Rattle.code_table.specs.Ascii.{is_ascii}
 use Rattle.code_table.specs.Images.{page_count, root_of, image}
 use Rattle.history_core.specs.History.{History}
 use Rattle.history_core.specs.Tokens.{words_of}
@@ -61,6 +62,7 @@ IsThere table log fills =
 pub record IsPinOf (table : Table) (pin : Pin) : Type 0 where
   pub pages : pin.pages.items ≡ pages_of table
   pub root : pin.root ≡ root_of table
+  pub ascii : pin.ascii ≡ is_ascii table
 
 -- One pin, of the table.
 abbrev pub IsOnePin : Table → List Pin → Type 0

@@ -17,9 +17,9 @@ code_in-requires-clause-image g c =
     let l = c.layout_of-layout.ensures in
     let pin = c.requires.pin in (
       table_in hs c.args.pin.now.pages.items,
-      pin_image hs c.args.pin.now.pages.items (words_of c.args.hall.now) _ _ _
+      pin_image hs c.args.pin.now.pages.items (words_of c.args.hall.now) _ _ _ _
           (λ h there. g.met.S.PagedStory.are_holdings _ _ _ h c.requires.own.legal there)
-          (record { held = pin.held; inside = pin.inside; decode = l.0 ∙ pin.decode }) l.1
+          (record { held = pin.held; inside = pin.inside; decode = l.0 ∙ pin.decode; half = pin.half }) l.1
           (ap (λ pages. image (table_in hs pages)) c.as_slice.ensures.value),
     )
 
@@ -30,7 +30,7 @@ returns-clause-value g c =
     let l = c.layout_of-layout.ensures in
     let pin = c.requires.pin in
     c.code_in.ensures.value (table_in hs c.args.pin.now.pages.items)
-    (pin_image hs c.args.pin.now.pages.items (words_of c.args.hall.now) _ _ _
+    (pin_image hs c.args.pin.now.pages.items (words_of c.args.hall.now) _ _ _ _
     (λ h there. g.met.S.PagedStory.are_holdings _ _ _ h c.requires.own.legal there)
-    (record { held = pin.held; inside = pin.inside; decode = l.0 ∙ pin.decode }) l.1
+    (record { held = pin.held; inside = pin.inside; decode = l.0 ∙ pin.decode; half = pin.half }) l.1
     (ap (λ pages. image (table_in hs pages)) c.as_slice.ensures.value))
