@@ -8,7 +8,7 @@ use Rattle.module_graph.specs.declared.edge.Edge.{Edge}
 use Rattle.module_graph.specs.Graph.{Shape}
 use Rattle.module_graph.specs.Numbers.{with_new}
 use Rattle.module_counts.specs.declared.store.Place.{Place}
-use Rattle.module_counts.specs.declared.stock.Live.{Live}
+use Rattle.module_counts.specs.declared.lives.Live.{Live}
 use Rattle.module_counts.specs.declared.stock.Stock.{Stock}
 use Rattle.runtime_histories.specs.Deeds.{Deeds, Desc, openings, closed, live, marks, IsIn, IsLive}
 use Rattle.runtime_histories.specs.Residence.{resident}

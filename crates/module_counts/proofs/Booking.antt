@@ -21,13 +21,14 @@ use Rattle.module_counts.specs.Counting.{Booked, Follows, IsKnown, IsStock}
 use Rattle.runtime_histories.proofs.Legality.{sound_first}
 
 -- Nothing was opened.
-pub stock_first : (g : Shape) (s : Stock) → IsTracking s.ages [] → IsRecent s.ages → s.ages.clock ≡ 0 → ((m : ℕ) → get_or s.ages.held.items m 0 ≡ 0) → s.live.items ≡ [] → s.placed.items ≡ []
+pub stock_first : (g : Shape) (s : Stock) → IsTracking s.ages [] → IsRecent s.ages → s.ages.clock ≡ 0 → ((m : ℕ) → get_or s.ages.held.items m 0 ≡ 0) → s.live.items ≡ [] → s.live.slots ≡ 0 → s.placed.items ≡ []
     → IsKnown g (length s.ages.held.items) → length s.ages.held.items ≤ vec_capacity s.placed → IsStock g s []
-stock_first g s tracking recent clock none live_is placed known room = record {
+stock_first g s tracking recent clock none live_is slots_is placed known room = record {
   tracking = tracking;
   recent = recent;
   within = record { clock = omega arith; held = λ m. let z = none m in omega arith };
   live_is = live_is;
+  slots_is = slots_is;
   placed_is = ap (map seat) placed;
   sound = sound_first g;
   tidy = record { known = tt; once = tt; fits = tt; within = omega arith };
@@ -76,8 +77,9 @@ pub steps_closed : (g : Shape) (b : List Entry) (c n : ℕ) → AreStepped g b �
 steps_closed g b c n h = steps_more g b (record { caller = c; event = Closing n }) h tt
 
 -- One entry more takes one from the room.
-pub spare_less : (limit len cap some cap' some' : ℕ) → cap ≤ cap' → some ≤ some' → min (min (limit - len) (cap - len)) (some + 1) ≤ min (min (limit - (len + 1)) (cap' - (len + 1))) (some' + 1) + 1
-spare_less limit len cap some cap' some' a b = omega arith
+pub spare_less : (limit len cap left some cap' left' some' : ℕ) → cap ≤ cap' → left ≤ left' + 1 → some ≤ some' + 1
+    → min (min (limit - len) (cap - len)) (min left some) ≤ min (min (limit - (len + 1)) (cap' - (len + 1))) (min left' some') + 1
+spare_less limit len cap left some cap' left' some' a b c = omega arith
 
-pub spare_within : (limit len cap some : ℕ) → len ≤ limit → len + min (min (limit - len) (cap - len)) (some + 1) ≤ limit
-spare_within limit len cap some h = omega arith
+pub spare_within : (limit len cap left some : ℕ) → len ≤ limit → len + min (min (limit - len) (cap - len)) (min left some) ≤ limit
+spare_within limit len cap left some h = omega arith

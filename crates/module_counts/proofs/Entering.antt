@@ -11,7 +11,7 @@ use Rattle.runtime_histories.specs.declared.entries.Reply.TheVariants.{Opened, R
 use Rattle.runtime_histories.specs.declared.entries.Event.{Event}
 use Rattle.runtime_histories.specs.declared.entries.Event.TheVariants.{Opening, Closing}
 use Rattle.runtime_histories.specs.declared.entries.Entry.{Entry}
-use Rattle.module_counts.specs.declared.stock.Live.{Live}
+use Rattle.module_counts.specs.declared.lives.Live.{Live}
 use Rattle.module_counts.specs.declared.stock.Stock.{Stock}
 use Rattle.runtime_histories.specs.Deeds.{Deeds, Desc, opened, openings, closed, live, IsIn, IsLive}
 use Rattle.runtime_histories.specs.Fair.{times}

@@ -1,4 +1,5 @@
 pub mod Tracking
+pub mod Slots
 pub mod Going
 pub mod Starting
 pub mod Storing

@@ -4,10 +4,11 @@ use Rattle.std.specs.List.{list_any, filter}
 use Rattle.std.proofs.lemmas.List.{map-append}
 use mathlib.Core.Logic.{dite}
 use native.Mathlib.Decide.{ℕ_discrete}
-use Rattle.module_counts.specs.declared.stock.Live.{Live}
+use Rattle.module_counts.specs.declared.lives.Live.{Live}
 use Rattle.runtime_histories.specs.Deeds.{Pair, same_pair, Act, act, opens, closes, rests, Deeds, Loaded, Desc, openings, names, closed, live, pair_live, Mark, uses, releases, released, marks_of, marks, IsIn}
 use Rattle.runtime_histories.specs.Fair.{IsBalanced}
-use Rattle.module_counts.specs.Counting.{shown, pair_shown}
+use Rattle.module_counts.specs.Lives.{pair_shown}
+use Rattle.module_counts.specs.Counting.{shown}
 use Rattle.runtime_histories.proofs.Basics.{or-false, openings-append, closed-append, filter-append, filter-same}
 use Rattle.runtime_histories.proofs.Balance.{marks-append, found_pair, no_more}
 

@@ -3,12 +3,14 @@ use Rattle.std.proofs.Common.{◌≡◌, ◌⊎◌, ℕ, ◌+◌, ◌*◌, ◌^�
 use mathlib.Core.Logic.{dite}
 use native.Mathlib.Decide.{ℕ_discrete}
 use Rattle.std.specs.List.{filter, cons_option, AllByRecursion, list_any}
+use Rattle.std.specs.declared.vec.Vec.{Vec}
+use Rattle.std.specs.declared.alloc.Global.{Global}
 use Rattle.module_graph.specs.declared.edge.Edge.{Edge}
 use Rattle.module_graph.specs.Graph.{Shape}
 use Rattle.module_graph.specs.Numbers.{with_new}
 use Rattle.runtime_histories.specs.declared.loads.Load.{Load}
 use Rattle.module_counts.specs.declared.store.Place.{Place}
-use Rattle.module_counts.specs.declared.stock.Live.{Live}
+use Rattle.module_counts.specs.declared.lives.Live.{Live}
 use Rattle.module_counts.specs.declared.stock.Stock.{Stock}
 use Rattle.runtime_histories.specs.Deeds.{Act, act, opens, closes, rests, Deeds, Desc, Loaded, live, pair_live, Mark, uses, releases, marks, IsIn, IsLive}
 use Rattle.runtime_histories.specs.Residence.{resident}
@@ -121,16 +123,19 @@ fresh_filter log (x ∷ xs) = go (resident (marks log) x.«module») refl (fresh
     go true e r = (e, r)
     go false e r = r
 
+length-snoc : (log : Deeds) (e : Act) → length (log ++ e ∷ []) ≡ length log + 1
+length-snoc log e = length-append log (e ∷ [])
+
 -- what all three kinds of deeds share: the counters track the new marks, the places are those before with loads
 stock_after : (g : Shape) (s t : Stock) (log : Deeds) (e : Act) (mid : List Place) → IsStock g s log
     → IsTracking t.ages (marks (log ++ e ∷ [])) → IsRecent t.ages → IsWithin t.ages (length (log ++ e ∷ []) * 2 ^ 64)
-    → t.live.items ≡ map shown (live (log ++ e ∷ []))
+    → t.live.items ≡ map shown (live (log ++ e ∷ [])) → t.live.slots ≡ s.live.slots + 1
     → map seat mid ≡ map seat_of (place_deed s.pages e.deed (places s.pages log))
     → t.placed.items ≡ filter (λ (x : Place). is_kept t.ages x.«module») mid
     → IsTidy (length s.ages.held.items) s.pages (place_deed s.pages e.deed (places s.pages log))
     → IsSound g (log ++ e ∷ []) → length t.ages.held.items ≡ length s.ages.held.items → t.pages ≡ s.pages → vec_capacity s.placed ≤ vec_capacity t.placed
     → IsStock g t (log ++ e ∷ [])
-stock_after g s t log e mid h tracking recent within live_is seats kept tidy sound len pages room =
+stock_after g s t log e mid h tracking recent within live_is slots seats kept tidy sound len pages room =
     let log' = log ++ e ∷ [] in
     let at : places t.pages log' ≡ still log' (place_deed s.pages e.deed (places s.pages log)) = ap (λ (z : ℕ). places z log') pages ∙ places-snoc s.pages log e in
     record {
@@ -138,6 +143,7 @@ stock_after g s t log e mid h tracking recent within live_is seats kept tidy sou
       recent = recent;
       within = within;
       live_is = live_is;
+      slots_is = (let a = h.slots_is in let b = length-snoc log e in omega arith);
       placed_is = ap (map seat) kept ∙ (kept_seats t.ages (marks log') mid (place_deed s.pages e.deed (places s.pages log)) tracking seats
           (subst (λ (z : ℕ). AllByRecursion (λ m. m < z) (placed_modules (place_deed s.pages e.deed (places s.pages log)))) (sym len) tidy.known) ∙ ap (map seat_of) (sym at));
       sound = sound;
@@ -154,37 +160,34 @@ map_loaded : (ls : List Load) → loaded_modules (map loaded_of ls) ≡ map (λ 
 map_loaded [] = refl
 map_loaded (l ∷ ls) = ap (λ (z : List ℕ). l.«module» ∷ z) (map_loaded ls)
 
-length-snoc : (log : Deeds) (e : Act) → length (log ++ e ∷ []) ≡ length log + 1
-length-snoc log e = length-append log (e ∷ [])
-
 -- An opening that was answered by a chain.
 pub stock_opens : (g : Shape) (s t : Stock) (log : Deeds) (c n : ℕ) (v : Success) (ps : List (List ℕ)) (mid : List Place) → IsStock g s log → CanOpen g s.pages log v ps
     → ((ms : List Mark) → IsTracking s.ages ms → IsTracking t.ages (ms ++ cond (pair_live log v.pair) [] (map uses v.modules))) → IsRecent t.ages
     → ((m : ℕ) → get_or t.ages.held.items m 0 ≤ get_or s.ages.held.items m 0 + 2 ^ 64) → t.ages.clock ≡ s.ages.clock → length t.ages.held.items ≡ length s.ages.held.items
-    → n ≡ length log → t.live.items ≡ s.live.items ++ record { number = n; caller = c; generation = v.pair.generation; from = v.pair.from; to = v.pair.to } ∷ []
+    → n ≡ length log → t.live.items ≡ s.live.items ++ record { number = n; caller = c; generation = v.pair.generation; from = v.pair.from; to = v.pair.to } ∷ [] → t.live.slots ≡ s.live.slots + 1
     → map seat mid ≡ map seat s.placed.items ++ seated (map (λ (l : Load). l.«module») v.loads) ps
     → t.placed.items ≡ filter (λ (x : Place). is_kept t.ages x.«module») mid → t.pages ≡ s.pages → vec_capacity s.placed ≤ vec_capacity t.placed
     → IsStock g t (log ++ act c (opens v.pair v.modules (map loaded_of v.loads)) ∷ [])
-stock_opens g s t log c n v ps mid h can tracks recent more clock len number live_is seats kept pages room =
+stock_opens g s t log c n v ps mid h can tracks recent more clock len number live_is slots seats kept pages room =
     let l = map loaded_of v.loads in let e : Act = act c (opens v.pair v.modules l) in
     stock_after g s t log e mid h
     (subst (IsTracking t.ages) (sym (marks_opens log c v.pair v.modules l)) (tracks (marks log) h.tracking)) recent
     (record { clock = (let k = h.within.clock in let z = length-snoc log e in omega arith); held = λ m. let k = h.within.held m in let z = length-snoc log e in let y = more m in omega arith })
-    (live_is ∙ (ap (λ (z : List Live). z ++ record { number = n; caller = c; generation = v.pair.generation; from = v.pair.from; to = v.pair.to } ∷ []) h.live_is ∙ sym (live_is_opens log h.sound.balanced c v.pair n v.modules l number)))
+    (live_is ∙ (ap (λ (z : List Live). z ++ record { number = n; caller = c; generation = v.pair.generation; from = v.pair.from; to = v.pair.to } ∷ []) h.live_is ∙ sym (live_is_opens log h.sound.balanced c v.pair n v.modules l number))) slots
     (seats ∙ ((λ i. h.placed_is i ++ seated (sym (map_loaded v.loads) i) (can.places i)) ∙ sym (seats-loads s.pages l (places s.pages log))))
     kept (tidy_open g s log v ps h can)
     (sound_opens g log c v.pair v.modules l (record { ordinals = v.ordinals; cost = v.cost }) h.sound can.leads can.steps)
     len pages room
 
 -- A refused opening.
-pub stock_rests : (g : Shape) (s t : Stock) (log : Deeds) (c : ℕ) → IsStock g s log → t.ages ≡ s.ages → t.live.items ≡ s.live.items
+pub stock_rests : (g : Shape) (s t : Stock) (log : Deeds) (c : ℕ) → IsStock g s log → t.ages ≡ s.ages → t.live.items ≡ s.live.items → t.live.slots ≡ s.live.slots + 1
     → t.placed.items ≡ filter (λ (x : Place). is_kept t.ages x.«module») s.placed.items → t.pages ≡ s.pages → vec_capacity s.placed ≤ vec_capacity t.placed → IsStock g t (log ++ act c rests ∷ [])
-stock_rests g s t log c h ages live_is kept pages room = let e : Act = act c rests in
+stock_rests g s t log c h ages live_is slots kept pages room = let e : Act = act c rests in
     stock_after g s t log e s.placed.items h
     (subst (λ z. IsTracking z (marks (log ++ e ∷ []))) (sym ages) (subst (IsTracking s.ages) (sym (marks_rests log c)) h.tracking))
     (subst IsRecent (sym ages) h.recent)
     (subst (λ z. IsWithin z (length (log ++ e ∷ []) * 2 ^ 64)) (sym ages) (record { clock = (let k = h.within.clock in let z = length-snoc log e in omega arith); held = λ m. let k = h.within.held m in let z = length-snoc log e in omega arith }))
-    (live_is ∙ (h.live_is ∙ ap (map shown) (sym (live_rests log h.sound.balanced c))))
+    (live_is ∙ (h.live_is ∙ ap (map shown) (sym (live_rests log h.sound.balanced c)))) slots
     h.placed_is kept h.tidy (sound_rests g log c h.sound) (ap (λ z. length z.held.items) ages) pages room
 
 -- A list that isn't said to have items has none.
@@ -209,26 +212,28 @@ still_all g s log h a keep xs e = walk xs (places s.pages log) (e ∙ h.placed_i
         let old : is_kept s.ages y.«module» ≡ true = is_kept-tracks s.ages (marks log) y.«module» h.tracking k.0 ∙ f.0 in
         (ap (is_kept a) m ∙ keep y.«module» old, walk xs ys tail f.1 k.1)
 
--- A refused opening changes nothing.
-pub stock_rested : (g : Shape) (s : Stock) (log : Deeds) (c : ℕ) → IsStock g s log → IsStock g s (log ++ act c rests ∷ [])
-stock_rested g s log c h = stock_rests g s s log c h refl refl
-    (sym (kept_all (λ (x : Place). is_kept s.ages x.«module») s.placed.items (still_all g s log h s.ages (λ m z. z) s.placed.items refl))) refl (omega arith)
+-- A refused opening leaves all but its slot.
+pub stock_rested : (g : Shape) (s t : Stock) (log : Deeds) (c : ℕ) → IsStock g s log → t.ages ≡ s.ages → t.live.items ≡ s.live.items → t.live.slots ≡ s.live.slots + 1 → t.placed ≡ s.placed → t.pages ≡ s.pages
+    → IsStock g t (log ++ act c rests ∷ [])
+stock_rested g s t log c h ages live_is slots placed pages = stock_rests g s t log c h ages live_is slots
+    (ap (λ (z : Vec Place Global). z.items) placed ∙ (sym (kept_all (λ (x : Place). is_kept s.ages x.«module») s.placed.items (still_all g s log h s.ages (λ m z. z) s.placed.items refl))
+    ∙ ap (λ (z : Ages). filter (λ (x : Place). is_kept z x.«module») s.placed.items) (sym ages))) pages (let r : vec_capacity s.placed ≡ vec_capacity t.placed = ap (λ (z : Vec Place Global). vec_capacity z) (sym placed) in omega arith)
 
 -- A closing.
 pub stock_closes : (g : Shape) (s t : Stock) (log : Deeds) (c n : ℕ) (d : Desc) → IsStock g s log → (k : IsLive log c n) → d ≡ k.desc
     → ((ms : List Mark) → IsTracking s.ages ms → IsTracking t.ages (ms ++ cond (pair_live (log ++ act c (closes n) ∷ []) d.pair) [] (map releases d.modules))) → IsRecent t.ages
     → ((m : ℕ) → get_or t.ages.held.items m 0 ≤ get_or s.ages.held.items m 0) → t.ages.clock ≤ s.ages.clock + 2 ^ 64 → length t.ages.held.items ≡ length s.ages.held.items
-    → t.live.items ≡ filter (λ (x : Live). not (eqb x.number n)) s.live.items
+    → t.live.items ≡ filter (λ (x : Live). not (eqb x.number n)) s.live.items → t.live.slots ≡ s.live.slots + 1
     → t.placed.items ≡ filter (λ (x : Place). is_kept t.ages x.«module») s.placed.items → t.pages ≡ s.pages → vec_capacity s.placed ≤ vec_capacity t.placed
     → IsStock g t (log ++ act c (closes n) ∷ [])
-stock_closes g s t log c n d h k is tracks recent less clock len live_is kept pages room = let e : Act = act c (closes n) in
+stock_closes g s t log c n d h k is tracks recent less clock len live_is slots kept pages room = let e : Act = act c (closes n) in
     let mk : marks (log ++ e ∷ []) ≡ marks log ++ cond (pair_live (log ++ e ∷ []) d.pair) [] (map releases d.modules) =
     subst (λ (y : Desc). marks (log ++ e ∷ []) ≡ marks log ++ cond (pair_live (log ++ e ∷ []) y.pair) [] (map releases y.modules)) (sym is)
     (subst (λ (z : ℕ). marks (log ++ act c (closes z) ∷ []) ≡ marks log ++ cond (pair_live (log ++ act c (closes z) ∷ []) k.desc.pair) [] (map releases k.desc.modules)) k.number_is (marks_closes log h.sound.balanced c k.desc k.there)) in
     stock_after g s t log e s.placed.items h
     (subst (IsTracking t.ages) (sym mk) (tracks (marks log) h.tracking)) recent
     (record { clock = (let q = h.within.clock in let z = length-snoc log e in omega arith); held = λ m. let q = h.within.held m in let z = length-snoc log e in let y = less m in omega arith })
-    (live_is ∙ (ap (filter (λ (x : Live). not (eqb x.number n))) h.live_is ∙ sym (live_is_closes log c n)))
+    (live_is ∙ (ap (filter (λ (x : Live). not (eqb x.number n))) h.live_is ∙ sym (live_is_closes log c n))) slots
     h.placed_is kept h.tidy (sound_closes g log c n h.sound k) len pages room
 
 -- There is room for an opening's places.

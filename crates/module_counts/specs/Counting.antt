@@ -2,12 +2,12 @@
 use Rattle.std.specs.Prelude.{◌≡◌, ℕ, ◌+◌, ◌*◌, ◌^◌, ◌<◌, ◌≤◌, List, map, length, vec_capacity, Some}
 use Rattle.module_graph.specs.Graph.{Shape}
 use Rattle.runtime_histories.specs.declared.entries.Entry.{Entry}
-use Rattle.module_counts.specs.declared.stock.Live.{Live}
+use Rattle.module_counts.specs.declared.lives.Live.{Live}
 use Rattle.module_counts.specs.declared.stock.Stock.{Stock}
 use Rattle.std.specs.List.{AllByRecursion}
 use Rattle.std.specs.Prelude.{true}
 use Rattle.runtime_histories.specs.Residence.{resident}
-use Rattle.runtime_histories.specs.Deeds.{Pair, Deeds, Desc, live, marks}
+use Rattle.runtime_histories.specs.Deeds.{Deeds, Desc, live, marks}
 use Rattle.module_counts.specs.Tracking.{IsTracking, IsRecent, IsWithin}
 use Rattle.runtime_histories.specs.Places.{places, free}
 use Rattle.runtime_histories.specs.declared.refusals.Refusal.{Refusal}
@@ -29,10 +29,6 @@ shown d = record {
   to = d.pair.to;
 }
 
--- Its pair.
-abbrev pub pair_shown : Live → Pair
-pair_shown x = record { generation = x.generation; from = x.from; to = x.to }
-
 -- Each edge's module has a counter.
 abbrev pub IsKnown : Shape → ℕ → Type 0
 IsKnown graph modules = (o m : ℕ) → module_at graph.edges o ≡ Some m → m < modules
@@ -43,6 +39,7 @@ pub record IsStock (graph : Shape) (s : Stock) (log : Deeds) : Type 0 where
   pub recent : IsRecent s.ages
   pub within : IsWithin s.ages (length log * 2 ^ 64)
   pub live_is : s.live.items ≡ map shown (live log)
+  pub slots_is : s.live.slots ≡ length log
   pub placed_is : map seat s.placed.items ≡ map seat_of (places s.pages log)
   pub sound : IsSound graph log
   pub tidy : IsTidy (length s.ages.held.items) s.pages (places s.pages log)

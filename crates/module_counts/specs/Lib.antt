@@ -1,4 +1,5 @@
 pub mod Tracking
+pub mod Lives
 pub mod Stocks
 pub mod Admitting
 pub mod Successes

@@ -6,7 +6,8 @@ ghost use Rattle.runtime_histories.specs.Settings.{modules_of};
 ghost use Rattle.module_counts.specs.Tracking.{is_kept, listed};
 
 use crate::ages::{Ages, module_of};
-use crate::stock::{Live, Stock};
+use crate::lives::Lives;
+use crate::stock::Stock;
 use crate::store::{lowest_free, place_of, push_within, taken_pages};
 use chain_search::Chain;
 use module_graph::Graph;
@@ -75,7 +76,7 @@ impl Counts {
             graph: Snapshot::of(graph),
             journal: Vec::new(alloc),
             stock: Stock {
-                live: Vec::new(alloc),
+                live: Lives::new(alloc),
                 ages,
                 placed,
                 pages,
@@ -99,8 +100,8 @@ impl Counts {
     {
         let left = self.limit as usize - self.journal.len();
         let room = self.journal.capacity() - self.journal.len();
-        let more = self.stock.live.capacity();
-        left.min(room).min(more.saturating_add(1)) as u64
+        let more = self.stock.live.spare();
+        (left.min(room) as u64).min(more)
     }
 
     /// Appends an opening's entry and its uses, with the places of what it loads, one list of pages a
@@ -154,13 +155,13 @@ impl Counts {
         ensures room { self.old.spare ≤ self.new.spare }
     {
         let length = self.journal.len();
-        let live = self.stock.live.len();
+        let live = self.stock.live.len() as usize;
         if length + live + 2 > self.limit as usize {
             return Err(Refusal::JournalFull {
                 length: length as u64,
             });
         }
-        if self.stock.live.reserve(1).is_err() {
+        if self.stock.live.reserve().is_err() {
             return Err(Refusal::Memory);
         }
         if self.journal.reserve(live + 2).is_err() {
@@ -220,7 +221,7 @@ impl Counts {
     pub fn is_live(&self, caller: u32, number: u64) -> bool
         ensures { IsTrue result ↔ IsLive (deeds self.now.journal) caller number }
     {
-        is_number_live(self.stock.live.as_slice(), caller, number)
+        self.stock.live.has(caller, number)
     }
 
     /// The distinct modules of a chain that aren't resident, in the order of the chain.
@@ -249,14 +250,6 @@ impl Counts {
         } = self;
         journal
     }
-}
-
-/// Whether the number is that of a live descriptor of the caller.
-fn is_number_live(live: &[Live], caller: u32, number: u64) -> bool
-    ensures { result ≡ list_any (λ x. (x.number == number) && (x.caller == caller)) live.now }
-{
-    live.iter()
-        .any(|x| x.number == number && x.caller == caller)
 }
 
 /// Appends a module that isn't kept, unless it stands in the list.

@@ -4,6 +4,7 @@
 
 mod ages;
 mod counts;
+mod lives;
 mod stock;
 mod store;
 

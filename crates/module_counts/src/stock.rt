@@ -10,24 +10,16 @@ ghost use Rattle.runtime_histories.specs.Entries.{deeds, deed_of};
 ghost use Rattle.module_counts.specs.Stocks.{lists};
 ghost use Rattle.module_counts.specs.Admitting.{success_of, CanOpen, CanTake, deed_by, IsOpening, AreStepped};
 ghost use Rattle.module_counts.specs.Admitting as values;
-ghost use Rattle.module_counts.specs.Counting.{IsStock, IsKnown, pair_shown};
+ghost use Rattle.module_counts.specs.Counting.{IsStock, IsKnown};
+ghost use Rattle.module_counts.specs.Lives.{pair_shown};
 ghost use Rattle.module_counts.specs.Successes.{IsSuccess};
 
 use crate::ages::Ages;
-use crate::store::{Place, give_up, place_all, push_within};
+use crate::lives::Lives;
+use crate::store::{Place, give_up, place_all};
 use module_graph::Graph;
 use names_alias::Name;
 use runtime_histories::{Asked, Entry, Event, Load, Reply};
-
-/// A live descriptor: the position of its opening, its caller, and its pair.
-#[derive(Drop)]
-pub struct Live {
-    pub number: u64,
-    pub caller: u32,
-    pub generation: u32,
-    pub from: Name,
-    pub to: Name,
-}
 
 /// An opening that was answered by a chain.
 #[derive(Clone, Copy)]
@@ -61,27 +53,10 @@ pub fn success_in(event: &Event) -> Option<Success<'_>>
 /// Live descriptors, counters and places. `pages` is the number of pages of the store.
 #[derive(Drop)]
 pub struct Stock {
-    pub live: Vec<Live>,
+    pub live: Lives,
     pub ages: Ages,
     pub placed: Vec<Place>,
     pub pages: u32,
-}
-
-/// Whether a pair of the first generation has a live descriptor.
-fn is_pair_live(live: &[Live], from: &Name, to: &Name) -> bool
-    ensures { result ≡ list_any (λ x. same_pair (pair_shown x)
-        (record { generation = 0; from = from.now; to = to.now })) live.now }
-{
-    live.iter()
-        .any(|x| x.generation == 0 && (x.from == *from && x.to == *to))
-}
-
-/// Leaves out the descriptor of a number.
-fn drop_live(live: &mut Vec<Live>, number: u64)
-    ensures room { vec_capacity live.new ≡ vec_capacity live.old }
-    ensures items { live.new.items ≡ filter (λ x. not (x.number == number)) live.old.items }
-{
-    live.retain(|x| x.number != number);
 }
 
 /// The uses of an opening, which finds its pair live or not.
@@ -141,30 +116,20 @@ impl Stock {
         requires can { (v : values.Success) × IsSuccess v found
             × CanOpen graph.now self.old.pages (deeds journal.now) v (lists places.items) }
         requires few { length journal.now < 2 ^ 32 }
-        requires room { vec_len self.old.live < vec_capacity self.old.live }
+        requires room { (0 < self.old.live.left) × (0 < self.old.live.fresh) }
         ensures stock { (v : values.Success) → IsSuccess v found.entry
             → CanOpen graph.now self.old.pages (deeds journal.now) v (lists places.items)
             → IsStock graph.now self.new (deeds journal.now ++ act caller (deed_by (Some v)) ∷ []) }
         ensures pages { self.new.pages ≡ self.old.pages }
-        ensures room { vec_capacity self.old.live ≤ vec_capacity self.new.live }
-        ensures len { vec_len self.new.live ≡ vec_len self.old.live + 1 }
+        ensures room { (self.old.live.left ≤ self.new.live.left + 1) × (self.old.live.fresh ≤ self.new.live.fresh + 1) }
+        ensures len { length self.new.live.items ≡ length self.old.live.items + 1 }
         ensures modules { length self.new.ages.held.items ≡ length self.old.ages.held.items }
     {
-        let is_live = is_pair_live(self.live.as_slice(), found.from, found.to);
+        let is_live = self.live.has_pair(found.from, found.to);
         start_pair(&mut self.ages, graph, is_live, found.chain);
         let none = found.loads.is_empty();
         place_all(&mut self.placed, found.loads, places);
-        let number = journal.len() as u64;
-        push_within(
-            &mut self.live,
-            Live {
-                number,
-                caller,
-                generation: 0,
-                from: found.from.copied(),
-                to: found.to.copied(),
-            },
-        );
+        self.live.open(caller, found.from, found.to);
         give_up(&mut self.placed, &self.ages, !none);
     }
 }
@@ -193,7 +158,7 @@ impl Stock {
     {
         match success_in(event) {
             Some(found) => {
-                let is_live = is_pair_live(self.live.as_slice(), found.from, found.to);
+                let is_live = self.live.has_pair(found.from, found.to);
                 stop_pair(&mut self.ages, graph, is_live, found.chain)
             }
             None => false,
@@ -213,17 +178,18 @@ impl Stock {
         requires can { CanTake graph.now self.old.pages (deeds journal.now)
             (success_of entry.now.event) (lists places.items) }
         requires few { length journal.now < 2 ^ 32 }
-        requires room { vec_len self.old.live < vec_capacity self.old.live }
+        requires room { (0 < self.old.live.left) × (0 < self.old.live.fresh) }
         ensures stock { IsStock graph.now self.new
             (deeds journal.now ++ act entry.now.caller (deed_of entry.now.event) ∷ []) }
         ensures pages { self.new.pages ≡ self.old.pages }
-        ensures room { vec_capacity self.old.live ≤ vec_capacity self.new.live }
-        ensures len { vec_len self.new.live ≤ vec_len self.old.live + 1 }
+        ensures room { (self.old.live.left ≤ self.new.live.left + 1)
+            × (length self.old.live.items + self.old.live.fresh ≤ length self.new.live.items + self.new.live.fresh) }
+        ensures len { length self.new.live.items ≤ length self.old.live.items + 1 }
         ensures modules { length self.new.ages.held.items ≡ length self.old.ages.held.items }
     {
         match success_in(&entry.event) {
             Some(found) => self.open(graph, journal, entry.caller, found, places),
-            None => {}
+            None => self.live.skip(),
         }
     }
 
@@ -233,15 +199,18 @@ impl Stock {
         requires live { IsLive (deeds journal.now) caller number }
         requires steps { AreStepped graph.now journal.now }
         requires few { length journal.now < 2 ^ 32 }
+        requires room { 0 < self.old.live.left }
         ensures stock { IsStock graph.now self.new
             (deeds journal.now ++ act caller (closes number) ∷ []) }
         ensures pages { self.new.pages ≡ self.old.pages }
-        ensures room { vec_capacity self.new.live ≡ vec_capacity self.old.live }
-        ensures len { vec_len self.new.live + 1 ≤ vec_len self.old.live }
+        ensures room { (self.old.live.left ≤ self.new.live.left + 1)
+            × (length self.old.live.items + self.old.live.fresh ≤ length self.new.live.items + 1 + self.new.live.fresh) }
+        ensures len { length self.new.live.items + 1 ≤ length self.old.live.items }
         ensures modules { length self.new.ages.held.items ≡ length self.old.ages.held.items }
     {
-        drop_live(&mut self.live, number);
+        self.live.close(number);
         let gone = self.stop(graph, &journal[number as usize].event);
         give_up(&mut self.placed, &self.ages, gone);
+        self.live.skip();
     }
 }

@@ -1,8 +1,8 @@
-use Rattle.std.proofs.Common.{◌≡◌, ◌<◌, ◌++◌, ◌∷◌, [], Bool, not, eqb, Option, Some, List, ℕ, cond, length, get_or, map, sym, ap, ◌∙◌, subst, refl, arith}
+use Rattle.std.proofs.Common.{◌≡◌, ◌<◌, ◌+◌, ◌++◌, ◌∷◌, [], Bool, not, eqb, Option, Some, List, ℕ, cond, length, get_or, map, sym, ap, ◌∙◌, subst, refl, arith}
 use Rattle.std.proofs.lemmas.Grind.{common_steps}
 use Rattle.std.specs.List.{list_any, filter}
 use Rattle.runtime_histories.specs.declared.entries.Entry.{Entry}
-use Rattle.module_counts.specs.declared.stock.Live.{Live}
+use Rattle.module_counts.specs.declared.lives.Live.{Live}
 use Rattle.runtime_histories.specs.Deeds.{same_pair, releases, act, closes, live, pair_live, Deeds, IsLive}
 use Rattle.runtime_histories.specs.Entries.{deeds}
 use Rattle.runtime_histories.specs.Settings.{modules_of}
@@ -12,7 +12,8 @@ use Rattle.module_counts.specs.declared.store.Place.{Place}
 use Rattle.module_counts.specs.Tracking.{IsTracking, is_kept}
 use Rattle.module_counts.specs.Stocks.{seat}
 use Rattle.module_counts.specs.Admitting.{Success, success_of}
-use Rattle.module_counts.specs.Counting.{pair_shown, shown}
+use Rattle.module_counts.specs.Lives.{Living, pair_shown}
+use Rattle.module_counts.specs.Counting.{shown}
 use Rattle.runtime_histories.proofs.Basics.{number_range}
 use Rattle.runtime_histories.proofs.Legality.{length-deeds}
 use Rattle.module_counts.proofs.Living.{any_live, live_is_closes}
@@ -60,17 +61,18 @@ returns-clause-stock c =
     let log' : Deeds = log ++ act c.args.caller (closes n) ∷ [] in
     let en = entry_of g k.desc js 0 n c.index-journal-number.result c.requires.steps k.there (let q = k.number_is in omega arith) in
     let h = c.requires.stock in
-    let lv : c.drop_live.new.live.items ≡ map shown (live log') = c.drop_live.ensures.items ∙ (ap (filter (λ (x : Live). not (eqb x.number n))) h.live_is ∙ sym (live_is_closes log c.args.caller n)) in
-    let now : list_any (λ (x : Live). same_pair (pair_shown x) en.value.pair) c.drop_live.new.live.items ≡ pair_live log' k.desc.pair =
+    let lv : c.close.new.self.items ≡ map shown (live log') = c.close.ensures.items ∙ (ap (filter (λ (x : Live). not (eqb x.number n))) h.live_is ∙ sym (live_is_closes log c.args.caller n)) in
+    let now : list_any (λ (x : Live). same_pair (pair_shown x) en.value.pair) c.close.new.self.items ≡ pair_live log' k.desc.pair =
     ap (list_any (λ (x : Live). same_pair (pair_shown x) en.value.pair)) lv ∙ (any_live log' en.value.pair ∙ ap (pair_live log') en.pair_is) in
     let rest = c.stop-gone.ensures.rest in
     stock_closes g s _ log c.args.caller n k.desc h k refl
     (λ ms t. subst (λ (b : Bool). IsTracking c.stop-gone.new.self.ages (ms ++ cond b [] (map releases k.desc.modules))) now
-    (subst (λ (z : List ℕ). IsTracking c.stop-gone.new.self.ages (ms ++ cond (list_any (λ (x : Live). same_pair (pair_shown x) en.value.pair) c.drop_live.new.live.items) [] (map releases z))) en.modules_is
+    (subst (λ (z : List ℕ). IsTracking c.stop-gone.new.self.ages (ms ++ cond (list_any (λ (x : Live). same_pair (pair_shown x) en.value.pair) c.close.new.self.items) [] (map releases z))) en.modules_is
     (c.stop-gone.ensures.tracks en.value en.is ms t)))
     (c.stop-gone.ensures.goes h.recent).0
     c.stop-gone.ensures.less c.stop-gone.ensures.clock c.stop-gone.ensures.stays
-    (ap (λ z. z.items) rest.0 ∙ c.drop_live.ensures.items)
+    (c.skip.ensures.items ∙ (ap (λ (z : Living). z.items) rest.0 ∙ c.close.ensures.items))
+    (c.skip.ensures.slots ∙ (ap (λ (z : Living). z.slots + 1) rest.0 ∙ ap (λ (n : ℕ). n + 1) c.close.ensures.slots))
     (c.give_up.ensures.items ∙ ap (λ (z : Vec Place Global). filter (λ (x : Place). is_kept c.stop-gone.new.self.ages x.«module») z.items) rest.1)
     rest.2
     (let a = c.give_up.ensures.room in grind (arith, common_steps))
@@ -79,8 +81,21 @@ pub returns-clause-len : goal.returns-clause-len
 returns-clause-len c =
     let h = c.requires.stock in let n = c.args.number in let log = deeds c.args.journal.now in
     let a = one_less log c.args.caller n c.requires.live in
-    let b : length c.drop_live.new.live.items ≡ length (filter (λ (x : Live). not (eqb x.number n)) (map shown (live log))) = ap length (c.drop_live.ensures.items ∙ ap (filter (λ (x : Live). not (eqb x.number n))) h.live_is) in
+    let b : length c.close.new.self.items ≡ length (filter (λ (x : Live). not (eqb x.number n)) (map shown (live log))) = ap length (c.close.ensures.items ∙ ap (filter (λ (x : Live). not (eqb x.number n))) h.live_is) in
     let d : length c.args.self.now.live.items ≡ length (map shown (live log)) = ap length h.live_is in
-    let r = c.stop-gone.ensures.rest.0 in
-    let e : length c.stop-gone.new.self.live.items ≡ length c.drop_live.new.live.items = ap (λ z. length z.items) r in
-    grind (arith, common_steps)
+    let e : length c.skip.new.self.items ≡ length c.close.new.self.items = ap length (c.skip.ensures.items ∙ ap (λ (z : Living). z.items) c.stop-gone.ensures.rest.0) in
+    omega arith
+
+pub skip-requires : goal.skip-requires
+skip-requires c =
+    let a : c.stop-gone.new.self.live.left ≡ c.close.new.self.left = ap (λ (z : Living). z.left) c.stop-gone.ensures.rest.0 in
+    let b = c.close.ensures.room.0 in let d = c.requires.room in record { room = omega arith }
+
+pub returns-clause-room : goal.returns-clause-room
+returns-clause-room c =
+    let a : c.stop-gone.new.self.live.left ≡ c.close.new.self.left = ap (λ (z : Living). z.left) c.stop-gone.ensures.rest.0 in
+    let a2 : c.stop-gone.new.self.live.fresh ≡ c.close.new.self.fresh = ap (λ (z : Living). z.fresh) c.stop-gone.ensures.rest.0 in
+    let b = c.close.ensures.room.0 in let d = c.close.ensures.room.1 in let e = c.skip.ensures.room.0 in let f = c.skip.ensures.room.1 in
+    let g : length c.skip.new.self.items ≡ length c.close.new.self.items = ap length (c.skip.ensures.items ∙ ap (λ (z : Living). z.items) c.stop-gone.ensures.rest.0) in
+    let k = c.close.ensures.one in
+    (omega arith, omega arith)

@@ -5,14 +5,13 @@ use Rattle.std.specs.List.{list_any}
 use Rattle.std.specs.declared.vec.Vec.{Vec}
 use Rattle.std.specs.declared.alloc.Global.{Global}
 use Rattle.runtime_histories.specs.declared.loads.Load.{Load}
-use Rattle.module_counts.specs.declared.stock.Live.{Live}
+use Rattle.module_counts.specs.declared.lives.Live.{Live}
 use Rattle.runtime_histories.specs.Deeds.{Pair, same_pair, uses, pair_live}
 use Rattle.module_counts.specs.Tracking.{IsTracking}
 use Rattle.runtime_histories.specs.Settings.{modules_of}
 use Rattle.module_counts.specs.Stocks.{seat, seated, lists}
 use Rattle.runtime_histories.specs.Entries.{deeds}
-use Rattle.module_counts.specs.Counting.{pair_shown}
-use Rattle.runtime_histories.proofs.Legality.{length-deeds}
+use Rattle.module_counts.specs.Lives.{pair_shown}
 use Rattle.module_counts.proofs.Living.{any_live}
 use Rattle.module_counts.proofs.Stocking.{open_room, open_places, nothing_in, still_all, stock_opens}
 use Rattle.module_counts.proofs.stock.Stock.open.Goals as goal
@@ -45,17 +44,17 @@ returns-clause-stock c = λ v is can.
     let g = c.args.graph.now in let s = c.args.self.now in let log = deeds c.args.journal.now in let h = c.requires.stock in
     let p : Pair = record { generation = 0; from = c.args.found.from.now; to = c.args.found.to.now } in
     let same : p ≡ v.pair = (λ i. record { generation = sym is.generation i; from = sym is.from i; to = sym is.to i }) in
-    let live : c.is_pair_live-is_live.result ≡ pair_live log v.pair =
-    c.is_pair_live-is_live.ensures ∙ (ap (list_any (λ (x : Live). same_pair (pair_shown x) p)) (c.as_slice.ensures.value ∙ h.live_is) ∙ (any_live log p ∙ ap (pair_live log) same)) in
+    let live : c.has_pair-is_live.result ≡ pair_live log v.pair =
+    c.has_pair-is_live.ensures ∙ (ap (list_any (λ (x : Live). same_pair (pair_shown x) p)) h.live_is ∙ (any_live log p ∙ ap (pair_live log) same)) in
     let ms : modules_of g.edges c.args.found.chain.now ≡ v.modules = ap (modules_of g.edges) (sym is.ordinals) ∙ sym can.steps in
-    let number : length c.args.journal.now ≡ length log = sym (length-deeds c.args.journal.now) in
-    stock_opens g s _ log c.args.caller (length c.args.journal.now) v (lists c.args.places.items) c.place_all.new.placed.items h can
+    stock_opens g s _ log c.args.caller s.live.slots v (lists c.args.places.items) c.place_all.new.placed.items h can
     (λ ks t. subst (λ (b : Bool). IsTracking c.start_pair.new.ages (ks ++ cond b [] (map uses v.modules))) live
-    (subst (λ (z : List ℕ). IsTracking c.start_pair.new.ages (ks ++ cond c.is_pair_live-is_live.result [] (map uses z))) ms (c.start_pair.ensures.tracks ks t)))
+    (subst (λ (z : List ℕ). IsTracking c.start_pair.new.ages (ks ++ cond c.has_pair-is_live.result [] (map uses z))) ms (c.start_pair.ensures.tracks ks t)))
     (c.start_pair.ensures.goes h.recent).0
     c.start_pair.ensures.more c.start_pair.ensures.clock c.start_pair.ensures.stays
-    number
-    (c.push_within.ensures.items ∙ (λ i. s.live.items ++ record { number = length c.args.journal.now; caller = c.args.caller; generation = sym is.generation i; from = (c.copied.ensures ∙ sym is.from) i; to = (c.copied-2.ensures ∙ sym is.to) i } ∷ []))
+    h.slots_is
+    (c.open.ensures.items ∙ (λ i. s.live.items ++ record { number = s.live.slots; caller = c.args.caller; generation = sym is.generation i; from = sym is.from i; to = sym is.to i } ∷ []))
+    c.open.ensures.slots
     (c.place_all.ensures.seats ∙ ap (λ (z : List Load). map seat s.placed.items ++ seated (map (λ (l : Load). l.«module») z) (lists c.args.places.items)) (sym is.loads))
     c.give_up.ensures.items refl
     (let a = c.place_all.ensures.room in let b = c.give_up.ensures.room in omega arith)
