@@ -38,11 +38,11 @@ pub told_field_sync : IsSync told.the_field.row
 told_field_sync = search (sendable, crosses, list_send, list_sync) depth 20
 
 pub cache_send : IsSend cache.the_row
-cache_send = search (sendable, crosses, told_send, told_sync, told_field_send, writer.the_field_send) depth 20
+cache_send = search (sendable, crosses, told_send, told_sync, writer.the_field_send) depth 20
 
 -- The same where they are parts of another struct.
 pub view_field_send : IsSend view.the_field.row
 view_field_send = search (sendable, crosses, told_field_send, told_field_sync, reader.the_field_send) depth 20
 
 pub cache_field_send : IsSend cache.the_field.row
-cache_field_send = search (sendable, crosses, told_send, told_sync, told_field_send, writer.the_field_send) depth 20
+cache_field_send = search (sendable, crosses, told_send, told_sync, writer.the_field_send) depth 20

@@ -1,9 +1,12 @@
 //! The cache, to which chains are added.
 ghost use Rattle.std.specs.Prelude.{◌≡◌, ◌<◌, ◌≤◌, drop, IfOk, IfSome, MatchResult};
+ghost use Rattle.std.specs.Option.{option_copied};
+ghost use Rattle.core.specs.Mem.{manually_drop_value};
 ghost use Rattle.left_right.specs.Sides.{view as seat_view};
-ghost use Rattle.derivation_cache.specs.Known.{none_known, added, pair_by, AllLeast, Extends, IsLeastPair};
+ghost use Rattle.derivation_cache.specs.Known.{none_known, added, pair_by, pair_of, AllLeast, Extends, IsLeastPair};
 ghost use Rattle.derivation_cache.specs.Views.{Publishes};
 
+use crate::pair::Pair;
 use crate::rule::{ListWriter, Looks, Notes};
 use crate::told::Told;
 use crate::view::View;
@@ -13,16 +16,22 @@ use module_graph::Graph;
 use names_alias::Name;
 use std::alloc::{AllocError, Global};
 use std::marker::Model;
+use std::mem::ManuallyDrop;
 use std::sync::Wait;
 
-/// Least chains of one graph, each added once. It can't be dropped: `end` ends it.
+/// Least chains of one graph, each added once.
+///
+/// `end` ends it. One that is dropped isn't ended: its writer is kept for good, so that a value that
+/// has a cache may be dropped.
+#[derive(Drop)]
 pub struct Cache {
-    writer: ListWriter,
+    writer: ManuallyDrop<ListWriter>,
     told: Told,
 }
 
 impl Model for Cache {
     ghost use Rattle.std.specs.Prelude.{drop};
+    ghost use Rattle.core.specs.Mem.{manually_drop_value};
     ghost use Rattle.left_right.specs.Sides.{view as seat_view};
     ghost use Rattle.derivation_cache.specs.Known.{Known};
     ghost use Rattle.derivation_cache.specs.Views.{Publishes};
@@ -31,8 +40,9 @@ impl Model for Cache {
 
     ghost view = { λ c. c.told };
 
-    ghost invariant = { λ c. Publishes c.told.graph (seat_view c.writer.desk.place) c.writer.desk.shown.value
-        (drop c.writer.behind c.writer.log.items) };
+    ghost invariant = { λ c. let w = manually_drop_value c.writer in
+        Publishes c.told.graph (seat_view w.desk.place) w.desk.shown.value
+        (drop w.behind w.log.items) };
 }
 
 /// Shows a list to all readers.
@@ -51,6 +61,30 @@ fn publish<R: Wait>(
         return (writer, Err(AllocError));
     }
     writer.publish_as::<Looks, R>(rt)
+}
+
+/// A writer that isn't dropped with its cache.
+fn kept(writer: ListWriter) -> ManuallyDrop<ListWriter>
+    ensures { manually_drop_value result ≡ writer }
+{
+    // `Cache::end` takes it out, and ends it.
+    unsafe { ManuallyDrop::new_unchecked(writer) }
+}
+
+/// The same for a writer that is kept.
+fn publish_kept<R: Wait>(
+    rt: &R,
+    writer: ManuallyDrop<ListWriter>,
+    list: Told,
+) -> (ManuallyDrop<ListWriter>, Result<(), AllocError>)
+    requires knows { let w = manually_drop_value writer in Publishes list.graph (seat_view w.desk.place)
+        w.desk.shown.value (drop w.behind w.log.items) }
+    requires least { AllLeast list }
+    ensures { let w = manually_drop_value result.0 in Publishes list.graph (seat_view w.desk.place)
+        w.desk.shown.value (drop w.behind w.log.items) }
+{
+    let (writer, published) = publish(rt, ManuallyDrop::into_inner(writer), list);
+    (kept(writer), published)
 }
 
 impl Cache {
@@ -75,7 +109,10 @@ impl Cache {
             drop(writer.take(rt));
             return Err(AllocError);
         }
-        Ok(Cache { writer, told })
+        Ok(Cache {
+            writer: kept(writer),
+            told,
+        })
     }
 
     /// A view that has learnt of all that is published.
@@ -116,11 +153,20 @@ impl Cache {
         let published = replace_with(
             &mut self.writer,
             list,
-            |writer, list| publish(rt, writer, list),
+            |writer, list| publish_kept(rt, writer, list),
         );
         published?;
         self.told = next;
         Ok(())
+    }
+
+    /// The pair of these names, if it is published.
+    pub fn pair(&self, from: &Name, to: &Name) -> Option<&Pair>
+        ensures found { option_copied result ≡ pair_of self.now from.now to.now }
+        ensures least { IfSome result (λ pair. IsLeastPair self.now.graph pair.now
+            × (pair.now.from ≡ from.now) × (pair.now.to ≡ to.now)) }
+    {
+        self.told.pair(from, to)
     }
 
     /// All that is published, unless the list has as many owners as can be counted.
@@ -133,6 +179,6 @@ impl Cache {
     /// Ends the cache.
     pub fn end<R: Wait>(self, rt: &R) {
         let Cache { writer, told: _ } = self;
-        drop(writer.take(rt));
+        drop(ManuallyDrop::into_inner(writer).take(rt));
     }
 }

@@ -1,8 +1,9 @@
 //! Views, which find chains without waiting.
 ghost use Rattle.std.specs.Prelude.{◌≡◌, ◌<◌, ◌^◌, ◌⊎◌, length, IfSome, MatchOption, Some, None};
+ghost use Rattle.std.specs.Option.{option_copied};
 ghost use Rattle.left_right.specs.Sides.{view as seat_view};
 ghost use Rattle.module_graph.specs.Graph.{Shape};
-ghost use Rattle.derivation_cache.specs.Known.{Extends, longer, pair_of, fitted};
+ghost use Rattle.derivation_cache.specs.Known.{Extends, IsLeastPair, longer, pair_of, fitted};
 ghost use Rattle.derivation_cache.specs.Views.{TellsPair};
 
 use crate::found::Found;
@@ -111,6 +112,15 @@ impl View {
         if self.told.len() < told.len() {
             self.told = told;
         }
+    }
+
+    /// The pair of these names, if the view has learnt of it.
+    pub fn pair(&self, from: &Name, to: &Name) -> Option<&Pair>
+        ensures found { option_copied result ≡ pair_of self.now from.now to.now }
+        ensures least { IfSome result (λ pair. IsLeastPair self.now.graph pair.now
+            × (pair.now.from ≡ from.now) × (pair.now.to ≡ to.now)) }
+    {
+        self.told.pair(from, to)
     }
 
     /// Finds the chain of a pair, and copies its first ordinals, as many as fit.

@@ -1,5 +1,5 @@
 -- What an opening by two names as asked is answered, by what one by two good names is.
-use Rattle.std.proofs.Common.{◌≡◌, ◌⊎◌, ℕ, List, Result, Ok, Err, IfOk, IfErr, refl, [], inl, inr, sym, subst, append-nil}
+use Rattle.std.proofs.Common.{ℕ, List, Result, Ok, Err, IfOk, IfErr, refl, [], inl, inr, sym, subst, append-nil}
 use Rattle.names_alias.specs.CallerNames.{IsGood, IsFault}
 use Rattle.names_alias.specs.declared.fault.NameFault.{NameFault}
 use Rattle.outside.specs.Moments.{Holdings}
@@ -9,7 +9,7 @@ use Rattle.runtime_histories.specs.declared.refusals.Asked.TheVariants.{Good, Ba
 use Rattle.runtime_histories.specs.declared.refusals.End.TheVariants.{From, To}
 use Rattle.runtime_histories.specs.declared.refusals.Refusal.{Refusal}
 use Rattle.runtime_histories.specs.declared.refusals.Refusal.TheVariants.{BadName, NoConversion, LibraryFault, NoCharmap, BadCharmap, StoreFull, JournalFull, Memory}
-use Rattle.pair_openings.specs.Answers.{IsProper, Replies, Answers, Refuses, Loses, reply_of}
+use Rattle.pair_openings.specs.Answers.{IsProper, Replies, Answers, Refuses, Loses}
 use Rattle.pair_openings.specs.Loading.{Ground}
 use Rattle.charmap_library.specs.Fetching.{source_of}
 use Rattle.runtime_histories.specs.Charmaps.{wanted}

@@ -1,13 +1,13 @@
 -- Pages for several modules: the lowest of a sum are the lowest ones, one after another.
-use Rattle.std.proofs.Common.{◌≡◌, ◌≢◌, ◌⊎◌, inl, inr, ℕ, zero, suc, ◌+◌, ◌<◌, ◌≤◌, Bool, true, false, not, ◌||◌, eqb, List, [], ◌∷◌, ◌++◌, length, map, take, drop, if◌then◌else◌, refl, sym, ap, ◌∙◌, subst, arith, append_assoc, append-nil}
-use Rattle.std.specs.List.{filter, list_any, range_with_len}
-use Rattle.std.proofs.lemmas.Bool.{eq-eqb, ne_eqb, cases_Bool, false≢true}
+use Rattle.std.proofs.Common.{◌≡◌, ◌≢◌, inl, inr, ℕ, zero, suc, ◌+◌, ◌<◌, Bool, true, false, not, ◌||◌, eqb, List, [], ◌∷◌, ◌++◌, length, map, take, drop, if◌then◌else◌, refl, sym, ap, ◌∙◌, subst, arith, append_assoc, append-nil}
+use Rattle.std.specs.List.{filter, range_with_len}
+use Rattle.std.proofs.lemmas.Bool.{eq-eqb, ne_eqb}
 use Rattle.std.proofs.lemmas.List.{drop-take, take-take}
 use Rattle.code_pairs.specs.Tables.{Tables}
 use Rattle.runtime_histories.specs.Deeds.{Loaded, IsIn}
 use Rattle.runtime_histories.specs.Places.{Placed, among, pages_for, free_of, lowest, all_pages, placed_at}
 use Rattle.runtime_histories.specs.Legal.{load_pages}
-use Rattle.runtime_histories.proofs.Basics.{any-append, filter-same, or-false}
+use Rattle.runtime_histories.proofs.Basics.{any-append, filter-same}
 use Rattle.module_counts.specs.Stocks.{places_for}
 use Rattle.pair_openings.specs.Cuts.{cut_by, needs, total}
 use Rattle.pair_openings.specs.Loading.{loaded_all}

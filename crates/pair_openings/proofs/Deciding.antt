@@ -1,11 +1,11 @@
 -- What an opening by two good names is answered, by what was found, loaded and arranged.
-use Rattle.std.proofs.Common.{◌≡◌, ◌≢◌, inl, inr, ℕ, suc, ◌+◌, ◌<◌, ◌≤◌, Bool, true, false, not, eqb, List, [], ◌∷◌, ◌++◌, length, map, if◌then◌else◌, Option, Some, None, IfSome, refl, sym, ap, ◌∙◌, subst, arith, append-nil}
-use Rattle.std.specs.List.{All, filter, filter_map, cons_option, list_any, find}
-use Rattle.std.specs.Option.{option_map, option_and_then}
+use Rattle.std.proofs.Common.{◌≡◌, inl, inr, ℕ, suc, ◌<◌, ◌≤◌, Bool, true, false, not, eqb, List, [], ◌∷◌, ◌++◌, length, map, if◌then◌else◌, Option, Some, None, IfSome, refl, sym, ap, ◌∙◌, subst, arith, append-nil}
+use Rattle.std.specs.List.{All, filter, cons_option, list_any, find}
+use Rattle.std.specs.Option.{option_and_then}
 use Rattle.std.proofs.lemmas.List.Elements.{All-nil, All-cons, All-append}
 use Rattle.code_pairs.specs.Tables.{Tables}
 use Rattle.module_graph.specs.declared.edge.Edge.{Edge}
-use Rattle.module_graph.specs.Graph.{Shape, IsGraph, IsKnown}
+use Rattle.module_graph.specs.Graph.{Shape, IsGraph}
 use Rattle.module_graph.specs.Numbers.{with_new}
 use Rattle.module_graph.proofs.GraphLaws.{known_found}
 use Rattle.chain_search.specs.declared.chain.Chain.{Chain}
@@ -17,7 +17,7 @@ use Rattle.runtime_histories.specs.Deeds.{Deeds, Loaded, marks}
 use Rattle.runtime_histories.specs.Entries.{loaded_of}
 use Rattle.runtime_histories.specs.Fetches.{paths_of, AsksUpTo}
 use Rattle.runtime_histories.specs.Legal.{Route, IsStopped, IsFull, loaded_modules, load_pages, AreRead, absent_among}
-use Rattle.runtime_histories.specs.Places.{free, places, all_pages}
+use Rattle.runtime_histories.specs.Places.{free, places}
 use Rattle.runtime_histories.specs.Residence.{resident}
 use Rattle.runtime_histories.specs.Settings.{Source, Setting, Leads, LeadsNowhere, module_at, modules_of}
 use Rattle.charmap_library.specs.Fetching.{source_of, AskedFor, FetchesModules, StopsAt}
@@ -25,7 +25,7 @@ use Rattle.charmap_library.proofs.Fetching.{more_none}
 use Rattle.module_counts.specs.Stocks.{places_for}
 use Rattle.pair_openings.specs.Cuts.{needs, total, cut_by}
 use Rattle.pair_openings.specs.Loading.{Ground, IsOver, IsLoaded, RefusesLoads, loaded_all}
-use Rattle.pair_openings.specs.Plans.{IsSettled, Asked, IsArranged, IsPlanned, IsDenied, IsLost, Denies, IsFront}
+use Rattle.pair_openings.specs.Plans.{IsSettled, Asked, IsArranged, IsPlanned, Denies}
 use Rattle.pair_openings.specs.declared.planning.Opening.{Opening}
 use Rattle.pair_openings.proofs.Cutting.{load_pages-all, cut_places}
 

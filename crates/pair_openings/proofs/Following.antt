@@ -1,15 +1,13 @@
 -- Openings follow a journal.
-use Rattle.std.proofs.Common.{◌≡◌, ℕ, List, [], ◌∷◌, Option, None, Some, map, refl, sym, ap, ◌∙◌, subst}
-use Rattle.runtime_histories.specs.declared.entries.Entry.{Entry}
+use Rattle.std.proofs.Common.{◌≡◌, ℕ, List, [], None, map, refl, sym, ap, ◌∙◌, subst}
 use Rattle.runtime_histories.specs.declared.entries.Reply.{Reply}
 use Rattle.runtime_histories.specs.declared.entries.Reply.TheVariants.{Opened, Refused}
 use Rattle.runtime_histories.specs.declared.refusals.Asked.{Asked}
 use Rattle.runtime_histories.specs.declared.refusals.Asked.TheVariants.{Good, Bad}
 use Rattle.runtime_histories.specs.declared.refusals.Refusal.{Refusal}
 use Rattle.runtime_histories.specs.Entries.{deeds, loaded_of}
-use Rattle.runtime_histories.specs.Legal.{IsAnswered}
 use Rattle.runtime_histories.specs.Places.{places}
-use Rattle.module_counts.specs.Admitting.{Success, success_by, places_of}
+use Rattle.module_counts.specs.Admitting.{success_by, places_of}
 use Rattle.module_counts.specs.Counting.{Booked, Follows}
 use Rattle.module_counts.specs.Stocks.{places_for}
 use Rattle.pair_openings.specs.Answers.{reply_of}

@@ -1,5 +1,5 @@
 -- A pair is opened.
-use Rattle.std.proofs.Common.{◌≡◌, ℕ, true, false, List, [], ◌∷◌, ◌++◌, length, refl, sym, ap, ◌∙◌, subst}
+use Rattle.std.proofs.Common.{◌≡◌, ℕ, true, false, List, [], ◌∷◌, ◌++◌, refl, sym, ap, ◌∙◌, subst}
 use Rattle.std.proofs.lemmas.Bool.{true≢false, false≢true}
 use Rattle.names_alias.specs.Aliases.{AliasTable}
 use Rattle.outside.specs.Moments.{Holdings}
@@ -15,7 +15,7 @@ use Rattle.runtime_histories.specs.Deeds.{Deeds}
 use Rattle.runtime_histories.specs.Legal.{IsAnswered}
 use Rattle.module_graph.specs.Graph.{Shape}
 use Rattle.runtime_histories.specs.Settings.{Setting}
-use Rattle.module_counts.specs.Counting.{Booked, HasRoom, RefusesRoom, IsSettingOf}
+use Rattle.module_counts.specs.Counting.{Booked, HasRoom, RefusesRoom}
 use Rattle.charmap_library.specs.Fetching.{source_of}
 use Rattle.pair_openings.specs.Answers.{Replies, Refuses, Loses}
 use Rattle.pair_openings.specs.Entered.{Enters, IsNextIn, ground_of, Leaves, Stays, HasRefused, KeepsLimit, entry_of, is_want}

@@ -2,13 +2,16 @@
 ghost use Rattle.std.specs.Prelude.{◌≡◌, ◌+◌, ◌≤◌, length, IfOk, IfErr};
 ghost use Rattle.text_lines.specs.Limits.{longest_text};
 ghost use Rattle.runtime_histories.specs.Charmaps.{HasText};
+ghost use Rattle.pair_openings.specs.Answers.{IsProper};
 ghost use Rattle.pair_openings.specs.Asking.{asked_of};
 ghost use Rattle.pair_openings.specs.Entered.{HasBegun, HasRefused, KeepsLimit, is_want};
+ghost use Rattle.pair_openings.specs.Knowing.{IsKnown, CountsSteps};
 
 use crate::answer::decide;
 use crate::enter::enter_refusal;
 use crate::names::asked;
 use crate::planning::Opening;
+use chain_search::Chain;
 use module_counts::Counts;
 use module_graph::Graph;
 use names_alias::Aliases;
@@ -72,9 +75,50 @@ fn is_memory(why: &Refusal) -> bool
     }
 }
 
-/// Begins the opening of a pair: makes room and decides. A refusal is entered, but for that of a full
-/// journal and want of memory. What can be made isn't entered yet, so that its caller may take the
-/// memory that it needs before.
+/// Begins the opening of a pair of names as asked: makes room and decides. A refusal is entered, but
+/// for that of a full journal and want of memory. What can be made isn't entered yet, so that its
+/// caller may take the memory that it needs before.
+///
+/// The chain is searched only where it isn't known.
+pub fn begin_asked<L: Library, K: Ledger>(
+    alloc: Global,
+    counts: &mut Counts,
+    graph: &Graph,
+    library: &mut L,
+    dir: &str,
+    caller: u32,
+    from: Asked,
+    to: Asked,
+    known: Option<&Chain>,
+    steps: &mut Steps<K>,
+) -> Result<Begun, Refusal>
+    requires graph { graph.now ≡ counts.old.graph }
+    requires text { HasText graph.now }
+    requires from { IsProper from }
+    requires to { IsProper to }
+    requires known { IsKnown graph.now from to known }
+    ensures ok { IfOk result (HasBegun dir.now counts.old counts.new (L.holdings library.old) (L.holdings library.new) from to) }
+    ensures err { IfErr result (HasRefused dir.now counts.old counts.new (L.holdings library.old) (L.holdings library.new) caller from to) }
+    ensures limit { IfErr result (KeepsLimit counts.old) }
+    ensures steps { CountsSteps (length graph.now.edges) known.entry steps.old steps.new }
+{
+    match counts.reserve() {
+        Ok(()) => {}
+        Err(why) => return Err(why),
+    }
+    match decide(alloc, counts, graph, library, dir, &from, &to, known, steps) {
+        Ok(opening) => Ok(Begun { from, to, opening }),
+        Err(why) => {
+            if is_memory(&why) {
+                return Err(why);
+            }
+            enter_refusal(alloc, counts, graph, caller, from, to, copied(&why));
+            Err(why)
+        }
+    }
+}
+
+/// Begins the opening of a pair of texts, and searches its chain.
 pub fn begin<L: Library, K: Ledger>(
     alloc: Global,
     counts: &mut Counts,
@@ -98,20 +142,9 @@ pub fn begin<L: Library, K: Ledger>(
     ensures limit { IfErr result (KeepsLimit counts.old) }
     ensures steps { steps.new ≤ steps.old + length graph.now.edges }
 {
-    match counts.reserve() {
-        Ok(()) => {}
-        Err(why) => return Err(why),
-    }
     let from = asked(aliases, from);
     let to = asked(aliases, to);
-    match decide(alloc, counts, graph, library, dir, &from, &to, steps) {
-        Ok(opening) => Ok(Begun { from, to, opening }),
-        Err(why) => {
-            if is_memory(&why) {
-                return Err(why);
-            }
-            enter_refusal(alloc, counts, graph, caller, from, to, copied(&why));
-            Err(why)
-        }
-    }
+    begin_asked(
+        alloc, counts, graph, library, dir, caller, from, to, None, steps,
+    )
 }

@@ -12,7 +12,7 @@ mod planning;
 mod search;
 
 pub use answer::decide;
-pub use begun::{Begun, begin};
+pub use begun::{Begun, begin, begin_asked};
 pub use enter::{enter_opening, enter_refusal};
 pub use loads::loads_of;
 pub use names::asked;

@@ -1,16 +1,17 @@
 //! What an opening by two good names is answered.
-ghost use Rattle.std.specs.Prelude.{◌≡◌, ◌+◌, ◌<◌, ◌≤◌, ◌^◌, ◌++◌, length, All, IfOk, IfErr, OnOk};
+ghost use Rattle.std.specs.Prelude.{◌≡◌, ◌<◌, ◌≤◌, ◌^◌, ◌++◌, length, All, IfOk, IfErr, IfSome, OnOk};
 ghost use Rattle.runtime_histories.specs.Charmaps.{HasText};
 ghost use Rattle.runtime_histories.specs.Entries.{deeds};
-ghost use Rattle.runtime_histories.specs.Settings.{module_at, modules_of};
+ghost use Rattle.runtime_histories.specs.Settings.{Leads, module_at, modules_of};
 ghost use Rattle.module_counts.specs.Tracking.{listed};
 ghost use Rattle.pair_openings.specs.Cuts.{needs, total};
+ghost use Rattle.pair_openings.specs.Knowing.{CountsSteps};
 ghost use Rattle.pair_openings.specs.Loading.{IsLoaded, RefusesLoads};
 ghost use Rattle.pair_openings.specs.Plans.{IsArranged, IsPlanned, Denies};
 
 use crate::loads::loads_of;
 use crate::parts::{cut, pages_needed};
-use crate::search::find_chain;
+use crate::search::chain_for;
 use chain_search::{Chain, Ordinals};
 use charmap_library::fetch_missing;
 use module_counts::Counts;
@@ -125,8 +126,8 @@ fn arrange(
     })
 }
 
-/// Decides an opening by two good names: the least chain between them, the tables of its absent
-/// modules, and their pages.
+/// Decides an opening by two good names: the least chain between them, which is searched only where
+/// it isn't known, the tables of its absent modules, and their pages.
 pub fn plan<L: Library, K: Ledger>(
     alloc: Global,
     counts: &Counts,
@@ -135,17 +136,19 @@ pub fn plan<L: Library, K: Ledger>(
     dir: &str,
     from: &Name,
     to: &Name,
+    known: Option<&Chain>,
     steps: &mut Steps<K>,
 ) -> Result<Opening, Refusal>
     requires graph { graph.now ≡ counts.now.graph }
     requires text { HasText graph.now }
+    requires known { IfSome known (λ chain. Leads graph.now from.now to.now chain.now) }
     ensures ok { IfOk result (IsPlanned (record { directory = dir.now; graph = graph.now; pages = counts.now.pages; log = deeds counts.now.journal })
         (L.holdings library.old) (L.holdings library.new) from.now to.now) }
     ensures err { IfErr result (Denies (record { directory = dir.now; graph = graph.now; pages = counts.now.pages; log = deeds counts.now.journal })
         (L.holdings library.old) (L.holdings library.new) from.now to.now) }
-    ensures steps { steps.new ≤ steps.old + length graph.now.edges }
+    ensures steps { CountsSteps (length graph.now.edges) known.entry steps.old steps.new }
 {
-    let chain = match find_chain(alloc, graph, from, to, steps) {
+    let chain = match chain_for(alloc, graph, from, to, known, steps) {
         Ok(Some(chain)) => chain,
         Ok(None) => return Err(Refusal::NoConversion),
         Err(_) => return Err(Refusal::Memory),

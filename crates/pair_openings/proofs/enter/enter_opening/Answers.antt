@@ -1,4 +1,4 @@
-use Rattle.std.proofs.Common.{◌≡◌, ◌++◌, ◌∷◌, [], ◌∙◌}
+use Rattle.std.proofs.Common.{◌++◌, ◌∷◌, [], ◌∙◌}
 use Rattle.runtime_histories.specs.declared.entries.Reply.TheVariants.{Opened}
 use Rattle.pair_openings.specs.Entered.{entry_of}
 use Rattle.pair_openings.proofs.enter.enter_opening.Goals as goal

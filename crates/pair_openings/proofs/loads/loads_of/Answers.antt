@@ -1,7 +1,6 @@
-use Rattle.std.proofs.Common.{◌≡◌, ◌+◌, ◌<◌, ◌++◌, ◌∷◌, [], List, length, map, get_or, ap, sym, ◌∙◌, subst, arith}
+use Rattle.std.proofs.Common.{◌≡◌, ◌<◌, ◌++◌, ◌∷◌, [], length, map, get_or, ap, sym, ◌∙◌, subst, arith}
 use Rattle.std.proofs.lemmas.Grind.{common_steps}
 use Rattle.std.proofs.lemmas.List.{get_or_default}
-use Rattle.runtime_histories.specs.declared.loads.Load.{Load}
 use Rattle.runtime_histories.specs.Entries.{loaded_of}
 use Rattle.runtime_histories.specs.Places.{pages_for}
 use Rattle.runtime_histories.specs.Legal.{AreCounted}

@@ -1,6 +1,5 @@
-use Rattle.std.proofs.Common.{◌≡◌, ◌+◌, ◌<◌, length, sym, ◌∙◌, arith}
+use Rattle.std.proofs.Common.{◌<◌, length, arith}
 use Rattle.std.proofs.lemmas.Grind.{common_steps}
-use Rattle.code_table.specs.Images.{page_count}
 use Rattle.pair_openings.proofs.Loading.{pages_more}
 use Rattle.pair_openings.proofs.parts.pages_of.Goals as goal
 
