@@ -12,7 +12,7 @@ use Rattle.runtime_histories.specs.Deeds.{Deeds, Desc, Pair, Loaded, act, opens,
 use Rattle.runtime_histories.specs.Fair.{IsBalanced}
 use Rattle.module_counts.proofs.Living.{live_is_opens, live_is_closes}
 use Rattle.module_counts.specs.Counting.{shown}
-use Rattle.module_counts.specs.declared.stock.Live.{Live}
+use Rattle.module_counts.specs.declared.lives.Live.{Live}
 use Rattle.conversion_book.specs.declared.descriptor.Descriptor.{Descriptor}
 use Rattle.conversion_book.specs.Descriptors.{held_as, IsRunnable, AllRun}
 use Rattle.conversion_book.specs.Runtime.{Held, held_at, moved, without}

@@ -2,6 +2,9 @@
 use Rattle.std.proofs.Common.{◌≡◌, ℕ, List, [], ◌∷◌, ◌++◌, length, map, sym, refl, ap, ◌∙◌, subst, Some}
 use Rattle.std.specs.List.{flat_map}
 use Rattle.code_pairs.specs.Tables.{Tables}
+use Rattle.names_alias.specs.Aliases.{AliasTable}
+use Rattle.chain_search.specs.declared.chain.Chain.{Chain}
+use Rattle.charmap_library.specs.Fetching.{source_of}
 use Rattle.module_graph.specs.Graph.{Shape}
 use Rattle.chain_steps.specs.Chains.{initial}
 use Rattle.chain_recipes.specs.Recipes.{recipe_for}
@@ -17,11 +20,12 @@ use Rattle.runtime_histories.specs.Deeds.{Loaded}
 use Rattle.runtime_histories.specs.Entries.{deeds, loaded_of}
 use Rattle.runtime_histories.specs.Legal.{IsAnswered, Next}
 use Rattle.runtime_histories.specs.Places.{places}
-use Rattle.runtime_histories.specs.Settings.{Setting, charmaps_at}
+use Rattle.runtime_histories.specs.Settings.{Leads, Setting, charmaps_at}
 use Rattle.module_counts.specs.Counting.{Booked}
 use Rattle.module_counts.specs.Stocks.{lists, places_for}
 use Rattle.pair_openings.specs.Answers.{Answers, Loses, reply_of}
 use Rattle.pair_openings.specs.Entered.{Leaves, HasBegun, HasRefused, IsNextIn, KeepsLimit, ground_of, entry_of}
+use Rattle.pair_openings.specs.Knowing.{IsLeastFor}
 use Rattle.pair_openings.specs.Loading.{Ground}
 use Rattle.pair_openings.specs.declared.begun.Begun.{Begun}
 use Rattle.runtime_histories.proofs.Legality.{length-deeds}
@@ -34,6 +38,20 @@ use Rattle.conversion_book.specs.Preparing.{IsEntered, IsLed, still_kept}
 use Rattle.conversion_book.specs.Runtime.{Held, Runtime, log_of, setting_of, held_at}
 use Rattle.conversion_book.proofs.Fresh.{found_new}
 use Rattle.conversion_book.proofs.Booking.{IsOpeningOf, opening_of_names, opening_led, deed_opens, deed_rests, book_stays, book_rests, book_opens, tables_are}
+
+-- The chain of an opening that was begun is the least one between its names.
+pub begun_least : (aliases : AliasTable) (directory : List ℕ) (a m : Booked) (old new : Holdings) (from to : Asked) (o : Begun)
+    → HasBegun directory a m old new from to o → IsLeastFor a.graph o.from o.to o.opening.chain
+begun_least aliases directory a m old new from to o begun =
+    let s : Setting = record { first = record { graph = a.graph; aliases = aliases }; source = source_of directory old; pages = a.pages } in
+    let asked : Answers (ground_of directory a) old new o.from o.to o.opening =
+    subst (λ (z : Asked). Answers (ground_of directory a) old new z o.to o.opening) (sym begun.names.0)
+    (subst (λ (z : Asked). Answers (ground_of directory a) old new from z o.opening) (sym begun.names.1) begun.answers) in
+    let h = opening_of_names s a.graph (deeds a.journal) o.from o.to o.opening (asked.reply.legal s (record { pages_is = refl; source_is = refl })).0 in
+    let least : Leads a.graph h.source h.target o.opening.chain =
+    subst (λ (c : Chain). Leads a.graph h.source h.target c) (sym h.opened.chain_is) h.opened.route.leads in
+    subst (λ (x : Asked). IsLeastFor a.graph x o.to o.opening.chain) (sym h.from_is)
+    (subst (λ (y : Asked). IsLeastFor a.graph (Good h.source) y o.opening.chain) (sym h.to_is) least)
 
 module _ (graph : Shape) (keeps : List Loaded) (r : Runtime) (book : IsBook graph keeps r) where
   abbrev s : Setting

@@ -9,7 +9,8 @@ use Rattle.module_graph.specs.Numbers.{graph_of}
 use Rattle.runtime_histories.specs.Charmaps.{HasText}
 use Rattle.conversion_book.specs.declared.starting.Parts.{Parts}
 
--- The graph and the aliases of a configuration, a directory, and books over the graph without an entry.
+-- The graph and the aliases of a configuration, a directory, books over the graph without an entry, and chains of
+-- that graph.
 pub record AreParts (conf : Conf) (bindings : List Binding) (directory : List ℕ) (pages limit : ℕ) (p : Parts) : Type 0 where
   pub graph_is : p.graph ≡ graph_of conf.edges bindings
   pub whole : IsGraph p.graph
@@ -20,3 +21,4 @@ pub record AreParts (conf : Conf) (bindings : List Binding) (directory : List �
   pub pages_is : p.counts.pages ≡ pages
   pub limit_is : p.counts.limit ≡ limit
   pub journal : p.counts.journal ≡ []
+  pub told : p.told.graph ≡ p.graph

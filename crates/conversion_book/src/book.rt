@@ -3,16 +3,17 @@
 use crate::descriptor::{Descriptor, convert_held, drop_held, reset_held};
 use crate::entering::enter;
 use crate::kept::{Kept, keep_resident};
+use crate::knowing::begin_again;
 use crate::lent::{Work, run_held};
 use crate::starting::{Parts, start};
 use crate::whole::convert_whole_held;
 use chain_steps::{Progress, Reset};
+use derivation_cache::Told;
 use module_counts::Counts;
 use module_graph::Graph;
 use modules_conf::{Bindings, Conf};
 use names_alias::Aliases;
 use outside::Library;
-use pair_openings::begin;
 use runtime_histories::{Entry, Refusal};
 use std::alloc::{AllocError, Global};
 use std::marker::Model;
@@ -30,12 +31,13 @@ pub struct Book<L: Library> {
     dir: String,
     library: L,
     counts: Counts,
+    told: Told,
     kept: Vec<Kept>,
     held: Vec<Descriptor>,
 }
 
 impl<L: Library> Model for Book<L> {
-    ghost use Rattle.std.specs.Prelude.{map, string_bytes};
+    ghost use Rattle.std.specs.Prelude.{◌≡◌, map, string_bytes};
     ghost use Rattle.conversion_book.specs.Runtime.{Runtime};
     ghost use Rattle.conversion_book.specs.Descriptors.{held_as, kept_as};
     ghost use Rattle.conversion_book.specs.Inside.{IsBook};
@@ -56,7 +58,7 @@ impl<L: Library> Model for Book<L> {
       directory = string_bytes b.dir;
       library = L.holdings b.library;
       held = map held_as b.held.items;
-    }) };
+    }) × (b.told.graph ≡ b.graph) };
 }
 
 /// Memory was wanting; the library comes back.
@@ -112,6 +114,7 @@ impl<L: Library> Book<L> {
                     aliases,
                     dir,
                     counts,
+                    told,
                 } = parts;
                 Ok(Book {
                     alloc,
@@ -120,6 +123,7 @@ impl<L: Library> Book<L> {
                     dir,
                     library,
                     counts,
+                    told,
                     kept: Vec::new(alloc),
                     held: Vec::new(alloc),
                 })
@@ -147,13 +151,14 @@ impl<L: Library> Book<L> {
             IfSome (held_at n self.new.held) (λ h. h.machine.states ≡ initial)) }
         ensures steps { steps.new ≤ steps.old + length self.old.books.graph.edges }
     {
-        let begun = match begin(
+        let begun = match begin_again(
             self.alloc,
             &mut self.counts,
             &self.graph,
             &self.aliases,
             &mut self.library,
             self.dir.as_str(),
+            &mut self.told,
             caller,
             from,
             to,
@@ -284,6 +289,7 @@ impl<L: Library> Book<L> {
             dir: _,
             library,
             counts,
+            told: _,
             kept: _,
             held: _,
         } = self;

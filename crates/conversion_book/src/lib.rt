@@ -9,6 +9,7 @@ mod book;
 mod descriptor;
 mod entering;
 mod kept;
+mod knowing;
 mod lent;
 mod preparing;
 mod shared;

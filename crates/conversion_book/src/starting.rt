@@ -4,19 +4,22 @@ ghost use Rattle.modules_conf.specs.Limits.{IsWithinLimits, AreSound};
 ghost use Rattle.module_counts.specs.Counting.{IsKnown};
 ghost use Rattle.conversion_book.specs.Starting.{AreParts};
 
+use derivation_cache::Told;
 use module_counts::Counts;
 use module_graph::{Graph, modules_name_charmaps};
 use modules_conf::{Bindings, Conf, aliases_of};
 use names_alias::Aliases;
 use std::alloc::{AllocError, Global};
 
-/// The graph of a configuration, its aliases, the directory of charmaps, and books without an entry.
+/// The graph of a configuration, its aliases, the directory of charmaps, books without an entry, and that no chain
+/// was searched yet.
 #[derive(Drop)]
 pub struct Parts {
     pub graph: Graph,
     pub aliases: Aliases,
     pub dir: String,
     pub counts: Counts,
+    pub told: Told,
 }
 
 /// What a runtime begins with.
@@ -38,10 +41,12 @@ pub fn start(
     let aliases = aliases_of(alloc, conf)?;
     let dir = String::from_str(alloc, dir)?;
     let counts = Counts::new(alloc, &graph, pages, journal_limit)?;
+    let told = Told::empty(alloc, &graph)?;
     Ok(Parts {
         graph,
         aliases,
         dir,
         counts,
+        told,
     })
 }

@@ -1,8 +1,9 @@
-use Rattle.std.proofs.Common.{◌≡◌, sym, subst, true, rules}
+use Rattle.std.proofs.Common.{◌≡◌, ap, sym, subst, true, rules}
 use Rattle.std.specs.List.{All}
 use Rattle.modules_conf.specs.Charmaps.{names_charmaps}
 use Rattle.modules_conf.specs.declared.kind.Kind.{Kind}
 use Rattle.module_graph.specs.Graph.{Shape}
+use Rattle.derivation_cache.specs.Known.{Known}
 use Rattle.conversion_book.proofs.Booking.{modules_known}
 use Rattle.conversion_book.proofs.Texts.{graph_text}
 use Rattle.conversion_book.proofs.starting.start.Goals as goal
@@ -22,4 +23,5 @@ returns c = record {
   pages_is = c.in_ok-counts.ensures.pages;
   limit_is = c.in_ok-counts.ensures.limit;
   journal = c.in_ok-counts.ensures.empty;
+  told = ap (λ (k : Known). k.graph) c.in_ok-told.ensures;
 }

@@ -26,12 +26,14 @@ invariant_of-self g c =
     let e : Entry = record { caller = c.args.caller; event = Closing n } in
     let later : List Loaded = map kept_as c.keep_resident.new.kept.items in
     let lives : IsLive (log_of r) c.args.caller n = subst (λ (z : Runtime). IsLive (log_of z) c.args.caller n) (sym c.self.view_is) c.requires in
-    let graph : b.graph ≡ i.graph = c.dismiss.ensures.same.0 ∙ c.self.invariant.graph_is in
+    let graph : b.graph ≡ i.graph = c.dismiss.ensures.same.0 ∙ c.self.invariant.0.graph_is in
     let later_is : later ≡ still_kept (length i.graph.kinds) (deeds b.journal) keeps =
     c.keep_resident.ensures.items ∙ ap (λ (z : Shape). still_kept (length z.kinds) (deeds b.journal) keeps) graph in
-    let held : map held_as c.drop_held.new.held.items ≡ without n r.held = ap (map held_as) c.drop_held.ensures.items ∙ without_is n i.held.items in
-    subst (λ (z : List Held). IsBook i.graph later (record { books = b; aliases = i.aliases; directory = string_bytes i.dir; library = h; held = z })) (sym held)
-    (book_closes i.graph keeps r c.self.invariant b h e c.dismiss.ensures.same.0 c.dismiss.ensures.same.1 refl c.dismiss.ensures.journal lives n lives refl later later_is)
+    let held : map held_as c.drop_held.new.held.items ≡ without n r.held = ap (map held_as) c.drop_held.ensures.items ∙ without_is n i.held.items in (
+      subst (λ (z : List Held). IsBook i.graph later (record { books = b; aliases = i.aliases; directory = string_bytes i.dir; library = h; held = z })) (sym held)
+          (book_closes i.graph keeps r c.self.invariant.0 b h e c.dismiss.ensures.same.0 c.dismiss.ensures.same.1 refl c.dismiss.ensures.journal lives n lives refl later later_is),
+      c.self.invariant.1,
+    )
 
 pub returns : goal.returns
 returns g c =

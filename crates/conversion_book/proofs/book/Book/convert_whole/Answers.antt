@@ -15,6 +15,8 @@ invariant_of-self g c =
     let new : List Descriptor = c.convert_whole_held.new.held in
     let moves : Moves r.held (map held_as new) c.args.number (λ ts m n. n.recipe ≡ m.recipe) =
     subst (λ (z : List Descriptor). Moves (map held_as z) (map held_as new) c.args.number (λ ts m n. n.recipe ≡ m.recipe)) c.as_mut_slice.ensures.value c.convert_whole_held.ensures.moves in
-    let whole : take i.held.len (new ++ drop (length new) i.held.items) ≡ new = whole_slice new (drop (length new) i.held.items) i.held.len (let a = c.as_mut_slice.ensures.len in let b = c.convert_whole_held.auto.held in omega (arith, a, b)) in
-    book_moves i.graph (map kept_as i.kept.items) r c.self.invariant c.args.number moves.machine (map held_as (take i.held.len (new ++ drop (length new) i.held.items))) (ap (map held_as) whole ∙ moves.new_is)
-    (λ h e. known_so _ h (λ z. moves.machine.recipe ≡ z.machine.recipe) e moves.does_so)
+    let whole : take i.held.len (new ++ drop (length new) i.held.items) ≡ new = whole_slice new (drop (length new) i.held.items) i.held.len (let a = c.as_mut_slice.ensures.len in let b = c.convert_whole_held.auto.held in omega (arith, a, b)) in (
+      book_moves i.graph (map kept_as i.kept.items) r c.self.invariant.0 c.args.number moves.machine (map held_as (take i.held.len (new ++ drop (length new) i.held.items))) (ap (map held_as) whole ∙ moves.new_is)
+          (λ h e. known_so _ h (λ z. moves.machine.recipe ≡ z.machine.recipe) e moves.does_so),
+      c.self.invariant.1,
+    )

@@ -8,4 +8,4 @@ use Rattle.conversion_book.proofs.book.Book.is_live.Goals as goal
 pub returns-clause-held : goal.returns-clause-held
 returns-clause-held g c = λ yes.
     subst (λ (z : Runtime). IsSome (held_at c.args.number z.held)) c.self.view_is
-    (live_held (deeds c.self.inside.counts.journal) c.args.caller c.args.number _ c.self.invariant.numbers (c.is_live.ensures.0 yes))
+    (live_held (deeds c.self.inside.counts.journal) c.args.caller c.args.number _ c.self.invariant.0.numbers (c.is_live.ensures.0 yes))

@@ -18,6 +18,8 @@ invariant_of-self g c =
     let does : Tables → Machine → Machine → Type 0 = λ ts m n. (n.recipe ≡ m.recipe) × g.W.Work.does c.args.work ts m n c.run_held.result in
     let moves : Moves r.held (map held_as new) c.args.number does =
     subst (λ (z : List Descriptor). Moves (map held_as z) (map held_as new) c.args.number does) c.as_mut_slice.ensures.value c.run_held.ensures in
-    let whole : take i.held.len (new ++ drop (length new) i.held.items) ≡ new = whole_slice new (drop (length new) i.held.items) i.held.len (let a = c.as_mut_slice.ensures.len in let b = c.run_held.auto.held in omega (arith, a, b)) in
-    book_moves i.graph (map kept_as i.kept.items) r c.self.invariant c.args.number moves.machine (map held_as (take i.held.len (new ++ drop (length new) i.held.items))) (ap (map held_as) whole ∙ moves.new_is)
-    (λ h e. (known_so _ h (λ z. does z.tables z.machine moves.machine) e moves.does_so).0)
+    let whole : take i.held.len (new ++ drop (length new) i.held.items) ≡ new = whole_slice new (drop (length new) i.held.items) i.held.len (let a = c.as_mut_slice.ensures.len in let b = c.run_held.auto.held in omega (arith, a, b)) in (
+      book_moves i.graph (map kept_as i.kept.items) r c.self.invariant.0 c.args.number moves.machine (map held_as (take i.held.len (new ++ drop (length new) i.held.items))) (ap (map held_as) whole ∙ moves.new_is)
+          (λ h e. (known_so _ h (λ z. does z.tables z.machine moves.machine) e moves.does_so).0),
+      c.self.invariant.1,
+    )

@@ -15,5 +15,5 @@ returns c = record {
       let within : k < length xs = (let w = c.requires.within in omega (arith, same, w)) in
       let at : get_or xs k c.index.result.now ≡ c.index.result.now = search rules in
       let is : table_at c.args.self.now k ≡ c.deref.result.now = ap (λ (z : Tables). table_at z k) (sym c.self.view_is) ∙ (shared_at xs k c.index.result.now within ∙ (ap arc_value at ∙ sym c.deref.ensures)) in
-      subst (λ (t : Table). IsAscii t) (sym is) (c.is_ascii.ensures holds);
+      subst (λ (t : Table). IsAscii t) (sym is) (c.is_ascii.ensures.ascii holds);
 }
