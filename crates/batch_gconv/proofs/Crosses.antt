@@ -21,12 +21,13 @@ use Rattle.gconv_runtime.specs.contracts.tokens.Caller as caller_row
 use Rattle.runtime_room.specs.contracts.basis.Basis as basis
 use Rattle.runtime_room.specs.contracts.story.Room as room_row
 use Rattle.history_core.specs.contracts.tokens.Hall as hall_row
-use Rattle.gconv_runtime.proofs.tokens.Caller.TheSendSync as caller
+use Rattle.history_core.proofs.tokens.Pass.TheSendSync as pass
 use Rattle.runtime_room.specs.contracts.story.RoomStory.TheImpl as story
 use Rattle.history_core.proofs.tokens.Hall.TheSendSync as hall
 use Rattle.chain_search.proofs.chain.Ordinals.TheSendSync as ordinals
 use Rattle.runtime_histories.proofs.refusals.Refusal.TheSendSync as refusal
 use Rattle.runtime_histories.proofs.refusals.Asked.TheSendSync as asked
+use Rattle.derivation_cache.proofs.Crosses.{cache_field_send, view_field_send, told_field_send}
 use Rattle.batch_gconv.specs.contracts.many_threads.ManyThreads as many_row
 
 load_send : IsSend load.the_row
@@ -56,10 +57,10 @@ desk_send R s = declared_send (desk.the_type R) (
   (
     search (sendable, crosses, graph.the_send) depth 20,
     (
-      search (sendable, crosses, aliases.the_send) depth 20,
+      search (sendable, crosses) depth 20,
       (
         search (sendable, s) depth 20,
-        (search (sendable, crosses) depth 20, (search (sendable, crosses, layout.the_send) depth 20, (search (sendable, crosses) depth 20, tt))),
+        (search (sendable, crosses) depth 20, (search (sendable, crosses, layout.the_send) depth 20, (search (sendable, crosses, cache_field_send) depth 20, (search (sendable, crosses) depth 20, tt)))),
       ),
     ),
   ),
@@ -68,13 +69,16 @@ desk_send R s = declared_send (desk.the_type R) (
 -- A caller may be sent.
 pub caller_send : (R : RattleType) (d : Ghosts R.Denot) → IsSend R
     → IsSend (caller_row.the_row R (desk.the_row R) noted.the_row (basis.the_row R d) (story.ghosts R d story.no_dict))
-caller_send R d s = caller.the_send R (desk.the_row R) noted.the_row (basis.the_row R d) (story.ghosts R d story.no_dict) (desk_send R s) noted_send
+caller_send R d s =
+    let p = pass.the_field_send (room_row.the_row R) (desk.the_row R) noted.the_row (basis.the_row R d) (story.ghosts R d story.no_dict) (desk_send R s) noted_send in
+    declared_send (caller_row.the_type R (desk.the_row R) noted.the_row (basis.the_row R d) (story.ghosts R d story.no_dict))
+    (search (sendable, crosses, p) depth 20, (view_field_send, (told_field_send, (search (sendable, crosses) depth 20, tt))))
 
 hall_sync : (R : RattleType) (d : Ghosts R.Denot) → IsSend R → IsSync (hall_row.the_field (room_row.the_row R) (desk.the_row R) noted.the_row (basis.the_row R d) (story.ghosts R d story.no_dict)).row
 hall_sync R d s = hall.the_field_sync (room_row.the_row R) (desk.the_row R) noted.the_row (basis.the_row R d) (story.ghosts R d story.no_dict) (desk_send R s) noted_send
 
 gconv_field_sync : (R : RattleType) (d : Ghosts R.Denot) → IsSend R → IsSync (gconv_row.the_field R d).row
-gconv_field_sync R d s = let r = hall_sync R d s in search (sendable, recorded_sync, r) depth 20
+gconv_field_sync R d s = let r = hall_sync R d s in search (sendable, recorded_sync, r, aliases.the_sync) depth 20
 
 -- A runtime may be shared.
 pub many_sync : (R : RattleType) (d : Ghosts R.Denot) → IsSend R → IsSync (many_row.the_row R d)

@@ -17,6 +17,9 @@ const MOST_PAGES: u32 = 65_536;
 
 const MOST_ENTRIES: u32 = 16_777_216;
 
+/// At most so many callers have a view of the chains that were found.
+const MOST_CALLERS: u32 = 64;
+
 /// A runtime of many callers over a library.
 pub struct ManyThreads<L: Library> {
     gconv: Gconv<L>,
@@ -44,7 +47,7 @@ impl<L: Library + Send> Shared for ManyThreads<L> {
 
     /// A runtime that would be past the limits of pages or entries is as one for which memory is wanting.
     fn start<R: Wait>(
-        _rt: &R,
+        rt: &R,
         alloc: Global,
         conf: &Conf,
         bindings: &Bindings,
@@ -64,7 +67,17 @@ impl<L: Library + Send> Shared for ManyThreads<L> {
             aliases,
             folder,
         } = parts;
-        match Gconv::new(alloc, graph, aliases, library, folder, pages, limit) {
+        match Gconv::new(
+            rt,
+            alloc,
+            graph,
+            aliases,
+            library,
+            folder,
+            pages,
+            MOST_CALLERS,
+            limit,
+        ) {
             Ok((gconv, lead)) => Ok((ManyThreads { gconv }, lead)),
             Err(NoMemory { library }) => Err(library),
         }
@@ -110,9 +123,9 @@ impl<L: Library + Send> Shared for ManyThreads<L> {
         }
     }
 
-    fn close<R: Wait>(self, _rt: &R, lead: Lead<L>) -> Closed<L> {
+    fn close<R: Wait>(self, rt: &R, lead: Lead<L>) -> Closed<L> {
         let ManyThreads { gconv } = self;
-        let Left { library, journal } = gconv.close(lead);
+        let Left { library, journal } = gconv.close(rt, lead);
         Closed { library, journal }
     }
 }

@@ -5,23 +5,27 @@ use Rattle.std.specs.declared.vec.Vec.{Vec}
 use Rattle.std.specs.declared.alloc.Global.{Global}
 use Rattle.code_pairs.specs.Tables.{HasPoints}
 use Rattle.code_table.specs.declared.image.Layout.{Layout}
+use Rattle.chain_search.specs.declared.chain.Chain.{Chain}
+use Rattle.derivation_cache.specs.Known.{Known}
 use Rattle.module_graph.specs.Graph.{Shape}
 use Rattle.history_core.specs.History.{History}
 use Rattle.outside.specs.Moments.{Holdings}
 use Rattle.runtime_histories.specs.declared.entries.Entry.{Entry}
 use Rattle.runtime_histories.specs.declared.refusals.Asked.{Asked}
+use Rattle.runtime_histories.specs.declared.refusals.Asked.TheVariants.{Good}
 use Rattle.runtime_histories.specs.Deeds.{Deeds, Loaded, marks, IsIn}
 use Rattle.runtime_histories.specs.Entries.{deeds}
 use Rattle.runtime_histories.specs.Legal.{IsAnswered, absent_among, loaded_modules, load_pages}
 use Rattle.runtime_histories.specs.Places.{Placed, among, pages_for, all_needs, placed_at, place_loads, places}
 use Rattle.runtime_histories.specs.Residence.{resident}
-use Rattle.runtime_histories.specs.Settings.{Setting}
+use Rattle.runtime_histories.specs.Settings.{Setting, Leads}
 use Rattle.runtime_histories.proofs.Pinning.{absent_not_resident}
 use Rattle.module_counts.specs.Stocks.{Once, lists, places_for}
 use Rattle.module_counts.proofs.Stocking.{once_absent}
 use Rattle.module_counts.proofs.Tidying.{length-lowest}
 use Rattle.pair_openings.specs.Answers.{reply_of}
 use Rattle.pair_openings.specs.Entered.{HasBegun}
+use Rattle.pair_openings.specs.Knowing.{IsLeastFor}
 use Rattle.pair_openings.specs.declared.begun.Begun.{Begun}
 use Rattle.conversion_book.proofs.Booking.{IsOpeningOf, opening_of_names, opening_led}
 use Rattle.runtime_room.specs.Apart.{IsOrdered, AreGood, all_join, good_loads}
@@ -31,6 +35,7 @@ use Rattle.runtime_room.specs.Held.{ordered}
 use Rattle.runtime_room.specs.Rooms.{IsHistory, IsOfPoints, entries_of, deeds_of}
 use Rattle.runtime_room.specs.declared.desk.Desk.{Desk}
 use Rattle.runtime_room.specs.declared.desk.Noted.{Noted}
+use Rattle.runtime_room.proofs.Publishing.{published_graph}
 use Rattle.desk_openings.specs.Beginnings.{KeepsDesk}
 use Rattle.desk_openings.specs.Parts.{place_of, IsThere, AreThere}
 use Rattle.desk_openings.specs.Preparing.{loads_of, CanPrepare}
@@ -147,6 +152,16 @@ module _ {L : Type 0} (holdings : L → Holdings) (a b : Desk L) (log : History 
       (subst (λ (p : ℕ). CanPrepare a.graph p b.counts.journal b.layouts.items o.opening) (sym is.begun.stays.pages)
       (subst (λ (j : List Entry). CanPrepare a.graph a.counts.pages j b.layouts.items o.opening) (sym (is.begun.stays.journal ∙ is.stands.journal))
       (subst (λ (v : Vec (Vec Layout Global) Global). CanPrepare a.graph a.counts.pages (entries_of log) v.items o.opening) (sym is.keeps.layouts) here)))
+
+  -- Its chain can be published.
+  pub can_publish : IsLeastFor b.cache.graph o.from o.to o.opening.chain
+  can_publish =
+      let graph_is : b.cache.graph ≡ a.graph = ap (λ (k : Known). k.graph) (is.keeps.cache ∙ is.stands.cache) ∙ published_graph a.graph log in
+      let h = by_names in
+      let least : Leads a.graph h.source h.target o.opening.chain = subst (λ (c : Chain). Leads a.graph h.source h.target c) (sym h.opened.chain_is) h.opened.route.leads in
+      subst (λ (g : Shape). IsLeastFor g o.from o.to o.opening.chain) (sym graph_is)
+      (subst (λ (x : Asked). IsLeastFor a.graph x o.to o.opening.chain) (sym (is.begun.names.0 ∙ h.from_is))
+      (subst (λ (y : Asked). IsLeastFor a.graph (Good h.source) y o.opening.chain) (sym (is.begun.names.1 ∙ h.to_is)) least))
 
   -- Its tables are good where they are of points.
   pub are_of_points : AllByRecursion (AllByRecursion HasPoints) o.opening.tables.items → AllByRecursion IsOfPoints loads

@@ -1,5 +1,5 @@
 -- What a library was asked for by openings that aren't entered yet, or are lost.
-use Rattle.std.proofs.Common.{◌≡◌, ℕ, List, [], ◌∷◌, ◌++◌, sym, refl, ap, ◌∙◌, subst, append-nil, ⊎_elim, string_bytes}
+use Rattle.std.proofs.Common.{◌≡◌, ℕ, List, [], sym, refl, ap, subst, append-nil, ⊎_elim}
 use Rattle.module_graph.specs.Graph.{Shape}
 use Rattle.history_core.specs.History.{History}
 use Rattle.outside.specs.Moments.{Holdings}
@@ -21,7 +21,7 @@ use Rattle.pair_openings.specs.Plans as plans
 use Rattle.pair_openings.specs.declared.begun.Begun.{Begun}
 use Rattle.pair_openings.specs.declared.planning.Opening.{Opening}
 use Rattle.runtime_room.specs.Desks.{HasAsked}
-use Rattle.runtime_room.specs.Rooms.{entries_of, deeds_of}
+use Rattle.runtime_room.specs.Rooms.{deeds_of}
 use Rattle.runtime_room.specs.declared.desk.Desk.{Desk}
 use Rattle.runtime_room.specs.declared.desk.Noted.{Noted}
 use Rattle.runtime_room.proofs.Asking.{asked_lost, asked_still}

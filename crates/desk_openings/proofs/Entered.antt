@@ -37,6 +37,7 @@ use Rattle.conversion_book.proofs.Charting.{chain_runs}
 use Rattle.runtime_room.specs.Apart.{AreGood, all_join, all_filter}
 use Rattle.runtime_room.specs.Desks.{IsDeskOf, IsLaidOut, blame, blamed_in}
 use Rattle.runtime_room.specs.Grounds.{Ground}
+use Rattle.runtime_room.specs.Published.{pair_opened, pair_in, with_pair, published}
 use Rattle.runtime_room.specs.Puts.{IsPut, all_parts, Fit, joined}
 use Rattle.runtime_room.specs.Rooms.{IsHistory, LoadsPoints, entries_of, deeds_of, pinned}
 use Rattle.runtime_room.specs.declared.desk.Desk.{Desk}
@@ -44,6 +45,7 @@ use Rattle.runtime_room.specs.declared.desk.Noted.{Noted}
 use Rattle.runtime_room.proofs.Acts.{entries-snoc, deeds_of-snoc, history_next, covered_entry, blame-snoc}
 use Rattle.runtime_room.proofs.Asking.{asked_as, asked_next}
 use Rattle.runtime_room.proofs.Covering.{DeedPut, AreNew, new_fit, new_pages, tables_in}
+use Rattle.runtime_room.proofs.Publishing.{published-snoc}
 use Rattle.desk_openings.specs.Entering.{EntersOn}
 use Rattle.desk_openings.specs.Layouts.{KeepsLayouts, AreKept}
 use Rattle.desk_openings.specs.Parts.{parts_for, tables_for, AreThere, ArePinsOf}
@@ -189,7 +191,7 @@ module _ {L : Type 0} (holdings : L → Holdings) (a b c d : Desk L) (log : Hist
   pub opening_ground : ground_at holdings d ≡ ground_at holdings a
   opening_ground = λ i. record {
     setting = record {
-      first = record { graph = (is.enters.graph ∙ (is.prepared.laid.graph ∙ first.keeps.graph)) i; aliases = (is.enters.aliases ∙ (is.prepared.laid.aliases ∙ first.keeps.aliases)) i };
+      first = record { graph = (is.enters.graph ∙ (is.prepared.laid.graph ∙ first.keeps.graph)) i; aliases = ap (λ f. f.value) (is.enters.aliases ∙ (is.prepared.laid.aliases ∙ first.keeps.aliases)) i };
       source = record {
         directory = ap string_bytes (is.enters.directory ∙ (is.prepared.laid.directory ∙ first.keeps.directory)) i;
         texts = (ap (λ l. (holdings l).told) (is.enters.library ∙ is.prepared.laid.library) ∙ first.keeps.told) i;
@@ -204,12 +206,22 @@ module _ {L : Type 0} (holdings : L → Holdings) (a b c d : Desk L) (log : Hist
   asks_is : Asks s (entries_of log) e.entry.value.event first.begun.answers.reply.more
   asks_is = subst (λ (v : Entry). Asks s (entries_of log) v.event first.begun.answers.reply.more) (sym is.entry) (begun_asks holdings a b log from to o first)
 
+  -- Its pair is published.
+  cache_is : d.cache ≡ published d.graph after
+  cache_is =
+      let graph_is : d.graph ≡ a.graph = is.enters.graph ∙ (is.prepared.laid.graph ∙ first.keeps.graph) in
+      let before : b.cache ≡ published d.graph log = first.keeps.cache ∙ (first.stands.cache ∙ ap (λ (g : Shape). published g log) (sym graph_is)) in
+      is.enters.cache ∙ (is.prepared.ready.published
+      ∙ ((λ i. with_pair (before i) (pair_opened (first.begun.names.0 i) (first.begun.names.1 i) (reply_of o.opening)))
+      ∙ (ap (λ (v : Entry). with_pair (published d.graph log) (pair_in v.event)) (sym is.entry) ∙ sym (published-snoc d.graph log n e))))
+
   -- The desk stands for the history with its entry.
   pub opening_stands : IsDeskOf holdings d after
   opening_stands = record {
     journal = is.enters.journal ∙ (ap (λ (j : List Entry). j ++ e.entry.value ∷ []) (ap (λ k. k.journal) is.prepared.laid.counts ∙ (first.begun.stays.journal ∙ first.stands.journal)) ∙ sym (entries-snoc log n e));
     graph = is.enters.books.0 ∙ (ap (λ k. k.graph) is.prepared.laid.counts ∙ (first.begun.stays.graph ∙ (first.stands.graph ∙ (sym first.keeps.graph ∙ (sym is.prepared.laid.graph ∙ sym is.enters.graph)))));
     layouts = subst (λ (p : ℕ). AllByRecursion (IsLaidOut d.layouts.items) (places p (deeds_of after))) (sym pages_is) laid_after;
+    cache = cache_is;
     asked = asked_as s (ground_at holdings d).setting (entries_of log ++ e.entry.value ∷ []) (entries_of after) (holdings a.first.value) (holdings b.library) (holdings d.first.value) (holdings d.library)
         (ap (λ (g : Ground). g.setting) (sym opening_ground)) (sym (entries-snoc log n e)) (ap (λ f. holdings f.value) (sym (is.enters.first ∙ (is.prepared.laid.first ∙ first.keeps.first))))
         (ap holdings (sym (is.enters.library ∙ is.prepared.laid.library)))

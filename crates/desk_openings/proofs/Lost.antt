@@ -1,5 +1,5 @@
 -- An opening that is refused, or is lost.
-use Rattle.std.proofs.Common.{◌≡◌, ◌⊎◌, ℕ, ◌+◌, ◌≤◌, false, List, [], ◌∷◌, ◌++◌, Some, sym, refl, ap, ◌∙◌, subst, arith, string_bytes}
+use Rattle.std.proofs.Common.{◌≡◌, ◌⊎◌, ℕ, ◌+◌, ◌≤◌, false, List, [], ◌∷◌, ◌++◌, Some, None, sym, refl, ap, ◌∙◌, subst, arith, string_bytes}
 use Rattle.std.specs.List.{AllByRecursion}
 use Rattle.std.specs.declared.vec.Vec.{Vec}
 use Rattle.std.specs.declared.alloc.Global.{Global}
@@ -27,12 +27,14 @@ use Rattle.pair_openings.specs.declared.begun.Begun.{Begun}
 use Rattle.conversion_book.proofs.Booking.{deed_rests}
 use Rattle.runtime_room.specs.Desks.{IsDeskOf, IsLaidOut, HasAsked, blame, blames, blamed_in}
 use Rattle.runtime_room.specs.Grounds.{Ground}
+use Rattle.runtime_room.specs.Published.{pair_in, published}
 use Rattle.runtime_room.specs.Rooms.{IsHistory, LoadsPoints, entries_of, deeds_of, pinned}
 use Rattle.runtime_room.specs.declared.desk.Desk.{Desk}
 use Rattle.runtime_room.specs.declared.desk.Noted.{Noted}
 use Rattle.runtime_room.proofs.Acts.{entries-snoc, deeds_of-snoc, history_next, covered_entry, LoadsNone, laid_out_next, blame-snoc}
 use Rattle.runtime_room.proofs.Asking.{asked_as, asked_next}
 use Rattle.runtime_room.proofs.Covering.{DeedPut}
+use Rattle.runtime_room.proofs.Publishing.{published_still}
 use Rattle.desk_openings.specs.Beginnings.{KeepsDesk, IsLost, IsRefusal}
 use Rattle.desk_openings.specs.Preparing.{loads_of, LaysOut}
 use Rattle.desk_openings.proofs.Answered.{ground_at, IsBegun, are_absent}
@@ -99,7 +101,7 @@ module _ {L : Type 0} (holdings : L → Holdings) (a b : Desk L) (log : History 
   pub refusal_ground : ground_at holdings b ≡ ground_at holdings a
   refusal_ground = λ i. record {
     setting = record {
-      first = record { graph = is.keeps.graph i; aliases = is.keeps.aliases i };
+      first = record { graph = is.keeps.graph i; aliases = ap (λ f. f.value) is.keeps.aliases i };
       source = record { directory = ap string_bytes is.keeps.directory i; texts = is.keeps.told i };
       pages = is.refusal.leaves.enters.pages i;
     };
@@ -116,6 +118,10 @@ module _ {L : Type 0} (holdings : L → Holdings) (a b : Desk L) (log : History 
       (subst (λ (g : Shape). AsksFor s g (deeds a.counts.journal) from to (replies.Refused why) more) is.stands.graph
       ((is.refusal.leaves.replies.legal s (record { pages_is = refl; source_is = refl })).1)))
 
+  -- It opened nothing.
+  none_opened : pair_in e.entry.value.event ≡ None
+  none_opened = ap (λ (v : Entry). pair_in v.event) is.refusal.entry
+
   -- The desk stands for the history with its entry.
   pub refusal_stands : IsDeskOf holdings b after
   refusal_stands =
@@ -130,6 +136,7 @@ module _ {L : Type 0} (holdings : L → Holdings) (a b : Desk L) (log : History 
         graph = enters.graph ∙ (is.stands.graph ∙ sym is.keeps.graph);
         layouts = subst (λ (p : ℕ). AllByRecursion (IsLaidOut b.layouts.items) (places p (deeds_of after))) (sym enters.pages)
             (subst (λ (v : Vec (Vec Layout Global) Global). AllByRecursion (IsLaidOut v.items) (places a.counts.pages (deeds_of after))) (sym is.keeps.layouts) all);
+        cache = is.keeps.cache ∙ (is.stands.cache ∙ (ap (λ (g : Shape). published g log) (sym is.keeps.graph) ∙ sym (published_still b.graph log n e none_opened)));
         asked = asked_as s (ground_at holdings b).setting (entries_of log ++ e.entry.value ∷ []) (entries_of after) (holdings a.first.value) (holdings b.library) (holdings b.first.value) (holdings b.library)
             (ap (λ (g : Ground). g.setting) (sym refusal_ground)) (sym (entries-snoc log n e)) (ap (λ f. holdings f.value) (sym is.keeps.first)) refl
             (asked_next s (entries_of log) e.entry.value (holdings a.first.value) (holdings a.library) (holdings b.library) is.refusal.leaves.replies.more is.stands.asked is.refusal.leaves.replies.asked asks_is);
@@ -150,7 +157,7 @@ module _ {L : Type 0} (holdings : L → Holdings) (a b : Desk L) (log : History 
   pub lost_ground : ground_at holdings b ≡ ground_at holdings a
   lost_ground = λ i. record {
     setting = record {
-      first = record { graph = keeps.graph i; aliases = keeps.aliases i };
+      first = record { graph = keeps.graph i; aliases = ap (λ f. f.value) keeps.aliases i };
       source = record { directory = ap string_bytes keeps.directory i; texts = keeps.told i };
       pages = stays.pages i;
     };
@@ -165,6 +172,7 @@ module _ {L : Type 0} (holdings : L → Holdings) (a b : Desk L) (log : History 
     graph = stays.graph ∙ (stands.graph ∙ sym keeps.graph);
     layouts = subst (λ (p : ℕ). AllByRecursion (IsLaidOut b.layouts.items) (places p (deeds_of log))) (sym stays.pages)
         (subst (λ (v : Vec (Vec Layout Global) Global). AllByRecursion (IsLaidOut v.items) (places a.counts.pages (deeds_of log))) (sym keeps.layouts) stands.layouts);
+    cache = keeps.cache ∙ (stands.cache ∙ ap (λ (g : Shape). published g log) (sym keeps.graph));
     asked = asked_as (ground_at holdings a).setting (ground_at holdings b).setting (entries_of log) (entries_of log) (holdings a.first.value) (holdings b.library) (holdings b.first.value) (holdings b.library)
         (ap (λ (g : Ground). g.setting) (sym lost_ground)) refl (ap (λ f. holdings f.value) (sym keeps.first)) refl asked;
     blamed = subst (λ v. RoseBy (blame (entries_of log)) (holdings v.value).faults (holdings b.library).faults) (sym keeps.first)
@@ -191,7 +199,7 @@ module _ {L : Type 0} (holdings : L → Holdings) (a b c : Desk L) (log : Histor
   pub late_ground : ground_at holdings c ≡ ground_at holdings a
   late_ground = (λ i. record {
     setting = record {
-      first = record { graph = laid.graph i; aliases = laid.aliases i };
+      first = record { graph = laid.graph i; aliases = ap (λ f. f.value) laid.aliases i };
       source = record { directory = ap string_bytes laid.directory i; texts = ap (λ l. (holdings l).told) laid.library i };
       pages = ap (λ z. z.pages) laid.counts i;
     };
@@ -199,9 +207,9 @@ module _ {L : Type 0} (holdings : L → Holdings) (a b c : Desk L) (log : Histor
     handed = ap (λ f. holdings f.value) laid.first i;
   }) ∙ lost_ground holdings a b log is.stands is.keeps is.begun.stays
 
-  -- So does one that was prepared in part.
-  pub late_stands : IsDeskOf holdings c log
-  late_stands =
+  -- So does one that was prepared in part, where nothing was published.
+  pub late_stands : c.cache ≡ b.cache → IsDeskOf holdings c log
+  late_stands same =
       let k = begun_stands in
       record {
         journal = ap (λ z. z.journal) laid.counts ∙ k.journal;
@@ -209,6 +217,7 @@ module _ {L : Type 0} (holdings : L → Holdings) (a b c : Desk L) (log : Histor
         layouts = subst (λ z. AllByRecursion (IsLaidOut c.layouts.items) (places z.pages (deeds_of log))) (sym laid.counts)
             (laid_kept b.layouts.items c.layouts.items (loaded_modules (loads_of o.opening)) (places b.counts.pages (deeds_of log)) laid.layouts
             (subst (λ (p : ℕ). AllByRecursion (λ (x : Placed). among x.«module» (loaded_modules (loads_of o.opening)) ≡ false) (places p (deeds_of log))) (sym is.begun.stays.pages) (are_absent holdings a b log from to o is)) k.layouts);
+        cache = same ∙ (k.cache ∙ ap (λ (g : Shape). published g log) (sym laid.graph));
         asked = asked_as here (ground_at holdings c).setting (entries_of log) (entries_of log) (holdings a.first.value) (holdings b.library) (holdings c.first.value) (holdings c.library)
             (ap (λ (g : Ground). g.setting) (sym late_ground)) refl (ap (λ f. holdings f.value) (sym (laid.first ∙ is.keeps.first))) (ap holdings (sym laid.library)) asked_here;
         blamed = subst (λ v. RoseBy (blame (entries_of log)) (holdings v.value).faults (holdings c.library).faults) (sym laid.first)

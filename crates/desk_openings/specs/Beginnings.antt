@@ -27,6 +27,7 @@ pub record KeepsDesk {L : Type 0} (holdings : L → Holdings) (a b : Desk L) : T
   pub aliases : b.aliases ≡ a.aliases
   pub directory : b.directory ≡ a.directory
   pub layouts : b.layouts ≡ a.layouts
+  pub cache : b.cache ≡ a.cache
   pub first : b.first ≡ a.first
   pub told : (holdings b.library).told ≡ (holdings a.library).told
   pub count : (holdings a.library).faults ≤ (holdings b.library).faults

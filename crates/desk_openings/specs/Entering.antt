@@ -13,4 +13,5 @@ pub record EntersOn {L : Type 0} (a b : Desk L) (e : Noted) : Type 0 where
   pub library : b.library ≡ a.library
   pub directory : b.directory ≡ a.directory
   pub layouts : b.layouts ≡ a.layouts
+  pub cache : b.cache ≡ a.cache
   pub first : b.first ≡ a.first

@@ -1,5 +1,5 @@
 -- The pins that the modules of a chain get.
-use Rattle.std.specs.Prelude.{◌≡◌, ◌≤◌, ℕ, ◌+◌, ◌==◌, if◌then◌else◌, true, Option, Some, None}
+use Rattle.std.specs.Prelude.{◌≡◌, ◌≤◌, ℕ, ◌+◌, ◌==◌, if◌then◌else◌, Bool, true, Option, Some, None}
 use Rattle.std.specs.Prelude.{List, [], ◌∷◌, length, take, drop}
 use Rattle.std.specs.List.{flat_map}
 use Rattle.std.specs.declared.vec.Vec.{Vec}
@@ -14,13 +14,14 @@ use Rattle.runtime_histories.specs.Places.{places, pages_of}
 use Rattle.runtime_histories.specs.Residence.{resident}
 use Rattle.runtime_room.specs.Desks.{layouts_at}
 
--- What a pin says: the pages of an image, and the number of its root page.
+-- What a pin says: the pages of an image, the number of its root page, and whether the lower half is ASCII.
 pub record Shown : Type 0 where
   pub pages : List ℕ
   pub root : ℕ
+  pub ascii : Bool
 
 abbrev pub shown : Pin → Shown
-shown pin = record { pages = pin.pages.items; root = pin.root }
+shown pin = record { pages = pin.pages.items; root = pin.root; ascii = pin.ascii }
 
 -- How many pages images have.
 abbrev pub layout_pages : List Layout → ℕ
@@ -30,7 +31,7 @@ layout_pages (l ∷ ls) = l.pages + layout_pages ls
 -- Pages cut by images, one after another.
 abbrev pub cut_pins : List Layout → List ℕ → List Shown
 cut_pins [] pages = []
-cut_pins (l ∷ ls) pages = record { pages = take l.pages pages; root = l.root } ∷ cut_pins ls (drop l.pages pages)
+cut_pins (l ∷ ls) pages = record { pages = take l.pages pages; root = l.root; ascii = l.ascii } ∷ cut_pins ls (drop l.pages pages)
 
 -- The pages that a module is given, if it is loaded.
 abbrev pub given_to : ℕ → List Load → List (List ℕ) → Option (List ℕ)

@@ -9,6 +9,7 @@ use Rattle.code_pairs.specs.Tables.{HasPoints}
 use Rattle.chain_recipes.specs.Recipes.{recipe_for}
 use Rattle.conversion_book.specs.Preparing.{IsLed}
 use Rattle.module_counts.specs.Stocks.{Once, lists, places_for}
+use Rattle.pair_openings.specs.Answers.{reply_of}
 use Rattle.pair_openings.specs.declared.begun.Begun.{Begun}
 use Rattle.pair_openings.specs.declared.planning.Opening.{Opening}
 use Rattle.runtime_histories.specs.declared.entries.Entry.{Entry}
@@ -18,6 +19,7 @@ use Rattle.runtime_histories.specs.Legal.{loaded_modules}
 use Rattle.runtime_histories.specs.Places.{Placed, among, pages_for, place_loads, places}
 use Rattle.runtime_histories.specs.Residence.{resident}
 use Rattle.runtime_room.specs.Desks.{IsLaidOut}
+use Rattle.runtime_room.specs.Published.{pair_opened, with_pair}
 use Rattle.runtime_room.specs.declared.desk.Desk.{Desk}
 use Rattle.desk_openings.specs.Layouts.{KeepsLayouts, AreKept}
 use Rattle.desk_openings.specs.Parts.{AreThere, parts_for, ArePinsOf}
@@ -48,7 +50,7 @@ pub record CanPrepare (graph : Shape) (pages : ℕ) (journal : List Entry)
   pub laid : AllByRecursion (IsLaidOut layouts) (places pages (deeds journal))
 
 module _ {L : Type 0} where
-  -- The parts of the images of what isn't loaded stay, and all else does.
+  -- The parts of the images of what isn't loaded stay, and so does all else, but for what is published.
   pub record LaysOut (a b : Desk L) (modules : List ℕ) : Type 0 where
     pub counts : b.counts ≡ a.counts
     pub graph : b.graph ≡ a.graph
@@ -58,7 +60,8 @@ module _ {L : Type 0} where
     pub first : b.first ≡ a.first
     pub layouts : KeepsLayouts a.layouts.items b.layouts.items modules
 
-  -- The opening has its pins and its recipe, its tables are of points, and the parts of their images are kept.
+  -- The opening has its pins and its recipe, its tables are of points, the parts of their images are kept, and its
+  -- pair is published.
   pub record IsReady (a b : Desk L) (begun : Begun) (r : Ready) : Type 0 where
     pub from : r.from ≡ begun.from
     pub to : r.to ≡ begun.to
@@ -69,3 +72,5 @@ module _ {L : Type 0} where
     pub recipe : recipe_for a.graph begun.opening.chain.ordinals ≡ Some r.recipe
     pub kept : AreKept b.layouts.items (loads_of begun.opening)
     pub points : AllByRecursion (AllByRecursion HasPoints) begun.opening.tables.items
+    pub published : b.cache ≡ with_pair a.cache
+        (pair_opened begun.from begun.to (reply_of begun.opening))

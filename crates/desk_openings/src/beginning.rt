@@ -1,14 +1,17 @@
 //! An opening is begun.
 ghost use Rattle.std.specs.Prelude.{◌≡◌, ◌≤◌, ◌<◌, ◌+◌, ◌++◌, ◌∷◌, [], length, true, List};
-ghost use Rattle.text_lines.specs.Limits.{longest_text};
 ghost use Rattle.runtime_histories.specs.declared.entries.Entry as entry;
 ghost use Rattle.runtime_histories.specs.Charmaps.{HasText};
-ghost use Rattle.pair_openings.specs.Asking.{asked_of};
+ghost use Rattle.pair_openings.specs.Answers.{IsProper};
+ghost use Rattle.pair_openings.specs.Knowing.{CountsSteps};
+ghost use Rattle.runtime_room.specs.Published.{pair_asked};
 ghost use Rattle.desk_openings.specs.Beginnings.{has_entry, KeepsDesk, HasCome, IsSorted};
 
+use crate::publishing::known_chain;
+use derivation_cache::View;
 use outside::Library;
-use pair_openings::{Begun, begin};
-use runtime_histories::Refusal;
+use pair_openings::{Begun, begin_asked};
+use runtime_histories::{Asked, Refusal};
 use runtime_room::{Desk, Noted};
 use std::alloc::Global;
 use std::snapshot::Snapshot;
@@ -58,34 +61,37 @@ fn sorted<L>(desk: &Desk<L>, why: Refusal) -> Beginning
     }
 }
 
-/// Begins the opening of a pair over a desk.
+/// Begins the opening of a pair over a desk. The chain is searched only where the view doesn't know it.
 pub fn begin_on<L: Library, K: Ledger>(
     alloc: Global,
     desk: &mut Desk<L>,
+    view: &View,
     caller: u32,
-    from: &[u8],
-    to: &[u8],
+    from: Asked,
+    to: Asked,
     steps: &mut Steps<K>,
 ) -> Beginning
     requires graph { desk.old.counts.graph ≡ desk.old.graph }
     requires text { HasText desk.old.graph }
-    requires from { length from.now ≤ longest_text }
-    requires to { length to.now ≤ longest_text }
-    ensures come { HasCome L.holdings desk.old desk.new caller
-        (asked_of desk.old.aliases from.now) (asked_of desk.old.aliases to.now) result }
+    requires view { view.now.graph ≡ desk.old.graph }
+    requires from { IsProper from }
+    requires to { IsProper to }
+    ensures come { HasCome L.holdings desk.old desk.new caller from to result }
     ensures desk { KeepsDesk L.holdings desk.old desk.new }
-    ensures steps { steps.new ≤ steps.old + length desk.old.graph.edges }
+    ensures steps { CountsSteps (length desk.old.graph.edges) (pair_asked view.now from to)
+        steps.old steps.new }
 {
-    match begin(
+    let known = known_chain(view, &from, &to);
+    match begin_asked(
         alloc,
         &mut desk.counts,
         &desk.graph,
-        &desk.aliases,
         &mut desk.library,
         desk.directory.as_str(),
         caller,
         from,
         to,
+        known,
         steps,
     ) {
         Ok(begun) => Beginning::Begun(begun),

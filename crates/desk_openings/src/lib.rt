@@ -8,6 +8,7 @@ mod layouts;
 mod pins;
 mod points;
 mod preparing;
+mod publishing;
 
 pub use beginning::{Beginning, begin_on};
 pub use entering::enter;

@@ -1,13 +1,15 @@
 //! What an opening needs besides its entry.
-ghost use Rattle.std.specs.Prelude.{◌≡◌, Some, map, IfOk};
+ghost use Rattle.std.specs.Prelude.{◌≡◌, Some, map, IfOk, OnErr};
 ghost use Rattle.chain_recipes.specs.Recipes.{recipe_for};
 ghost use Rattle.conversion_book.specs.Preparing.{IsLed};
+ghost use Rattle.pair_openings.specs.Knowing.{IsLeastFor};
 ghost use Rattle.runtime_histories.specs.Legal.{loaded_modules};
 ghost use Rattle.desk_openings.specs.Preparing.{CanPrepare, LaysOut, IsReady, loads_of};
 
 use crate::layouts::keep_layouts;
 use crate::pins::chain_pins;
 use crate::points::see_points;
+use crate::publishing::publish;
 use chain_recipes::recipe_of;
 use chain_search::{Chain, least_chains_are_short};
 use chain_steps::Recipe;
@@ -17,6 +19,7 @@ use pair_openings::{Begun, Opening};
 use runtime_histories::Asked;
 use runtime_room::Desk;
 use std::alloc::{AllocError, Global};
+use std::sync::Wait;
 
 /// An opening that can be entered, with the pins of its chain's tables and its recipe.
 #[derive(Drop)]
@@ -39,12 +42,20 @@ fn recipe_along(alloc: Global, graph: &Graph, chain: &Chain) -> Result<Recipe, A
     recipe_of(alloc, graph, chain)
 }
 
-/// Takes all memory that an opening needs: for the parts of its images, its pins and its recipe.
-pub fn prepare<L>(alloc: Global, desk: &mut Desk<L>, begun: Begun) -> Result<Ready, AllocError>
+/// Takes all memory that an opening needs: for the parts of its images, its pins, its recipe and its
+/// pair, which it publishes last.
+pub fn prepare<R: Wait, L>(
+    rt: &R,
+    alloc: Global,
+    desk: &mut Desk<L>,
+    begun: Begun,
+) -> Result<Ready, AllocError>
     requires can { CanPrepare desk.old.graph desk.old.counts.pages desk.old.counts.journal
         desk.old.layouts.items begun.opening }
+    requires least { IsLeastFor desk.old.cache.graph begun.from begun.to begun.opening.chain }
     ensures desk { LaysOut desk.old desk.new (loaded_modules (loads_of begun.opening)) }
     ensures ok { IfOk result (IsReady desk.old desk.new begun) }
+    ensures err { OnErr result (desk.new.cache ≡ desk.old.cache) }
 {
     let Begun { from, to, opening } = begun;
     let recipe = recipe_along(alloc, &desk.graph, &opening.chain)?;
@@ -59,6 +70,7 @@ pub fn prepare<L>(alloc: Global, desk: &mut Desk<L>, begun: Begun) -> Result<Rea
         opening.places.as_slice(),
         opening.modules.as_slice(),
     )?;
+    publish(rt, alloc, &mut desk.cache, &from, &to, &opening.chain)?;
     Ok(Ready {
         from,
         to,

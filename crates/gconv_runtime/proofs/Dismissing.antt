@@ -4,12 +4,14 @@ use mathlib.Core.Logic.{dite}
 use native.Mathlib.Decide.{ℕ_discrete}
 use Rattle.std.specs.List.{AllByRecursion}
 use Rattle.chain_steps.specs.Chains.{CanRun}
+use Rattle.derivation_cache.specs.Known.{Known, Extends}
 use Rattle.history_core.specs.History.{History, EachNumber, Grows}
 use Rattle.history_core.specs.Rule.{last_fill}
 use Rattle.history_core.specs.Tokens.{IsPassOf}
 use Rattle.history_core.specs.declared.story.Story.{Ghosts}
 use Rattle.history_core.specs.declared.tokens.Hall.{Hall}
 use Rattle.history_core.specs.declared.tokens.Pass.{Pass}
+use Rattle.module_graph.specs.Graph.{Shape}
 use Rattle.outside.specs.Faults.{RoseBy}
 use Rattle.outside.specs.Moments.{Holdings}
 use Rattle.runtime_histories.specs.declared.entries.Entry.{Entry}
@@ -27,6 +29,7 @@ use Rattle.runtime_room.specs.Apart.{all_split}
 use Rattle.runtime_room.specs.Desks.{IsDeskOf, IsLaidOut, ground_of, blame, blamed_in}
 use Rattle.runtime_room.specs.Grounds.{Ground}
 use Rattle.runtime_room.specs.Held.{entries-append}
+use Rattle.runtime_room.specs.Published.{pair_in, published}
 use Rattle.runtime_room.specs.Rooms.{IsHistory, IsOwn, LoadsPoints, entries_of, deeds_of, pinned}
 use Rattle.runtime_room.specs.declared.desk.Desk.{Desk}
 use Rattle.runtime_room.specs.declared.desk.Noted.{Noted}
@@ -34,6 +37,7 @@ use Rattle.runtime_room.specs.declared.story.Room.{Room}
 use Rattle.runtime_room.proofs.Acts.{entries-snoc, deeds_of-snoc, history_next, covered_entry, LoadsNone, laid_out_next, blame-snoc}
 use Rattle.runtime_room.proofs.Asking.{asked_as, asked_next, asked_nothing}
 use Rattle.runtime_room.proofs.Covering.{DeedPut}
+use Rattle.runtime_room.proofs.Publishing.{published_extends, published_still}
 use Rattle.gconv_runtime.specs.Entries.{IsClosing, ClosesOn}
 use Rattle.desk_openings.specs.Parts.{ArePinsOf}
 use Rattle.gconv_runtime.specs.Owning.{Owns, tables_by}
@@ -160,6 +164,16 @@ pub closing_covered : (gr : Ground) (log : History Noted) (n j : ℕ) (e : Noted
 closing_covered gr log n j e fills h live is = covered_entry gr log n e fills h (next_is gr log n j e live is) (loads_points n j e is)
     (subst (λ (v : Entry). DeedPut gr.setting.pages (places gr.setting.pages (deeds_of log)) fills (deed_of v.event)) (sym is) tt)
 
+-- A closing publishes nothing.
+pub closing_published : (graph : Shape) (log : History Noted) (n j : ℕ) (e : Noted) → IsClosing n j e → published graph (log ++ (n, e) ∷ []) ≡ published graph log
+closing_published graph log n j e is = published_still graph log n e (ap (λ (v : Entry). pair_in v.event) is)
+
+-- What is published later begins with what a view has learnt.
+pub extends_later : (graph : Shape) (front log : History Noted) (n : ℕ) (now view : Known) → Grows n front log → now ≡ published graph log → view ≡ published graph front → Extends now view
+extends_later graph front log n now view grows e is =
+    subst (λ (k : Known). Extends k view) (sym (e ∙ ap (published graph) grows.1))
+    (subst (λ (k : Known). Extends (published graph (front ++ grows.0)) k) (sym is) (published_extends graph front grows.0))
+
 -- The desk stands for it.
 pub closing_stands : {L : Type 0} (holdings : L → Holdings) (old new : Desk L) (log : History Noted) (n j : ℕ) (e : Noted) → IsDeskOf holdings old log → ClosesOn old new e → IsClosing n j e
     → IsDeskOf holdings new (log ++ (n, e) ∷ [])
@@ -174,10 +188,11 @@ closing_stands holdings old new log n j e s k is =
       graph = k.books.0 ∙ (s.graph ∙ sym k.graph);
       layouts = subst (λ (p : ℕ). AllByRecursion (IsLaidOut new.layouts.items) (places p (deeds_of (log ++ (n, e) ∷ [])))) (sym k.books.1)
           (subst (λ v. AllByRecursion (IsLaidOut v.items) (places pages (deeds_of (log ++ (n, e) ∷ [])))) (sym k.layouts) all);
+      cache = k.cache ∙ (s.cache ∙ (ap (λ (z : Shape). published z log) (sym k.graph) ∙ sym (closing_published new.graph log n j e is)));
       asked = asked_as (ground_of holdings old).setting (ground_of holdings new).setting (entries_of log ++ e.entry.value ∷ []) (entries_of (log ++ (n, e) ∷ []))
           (holdings old.first.value) (holdings old.library) (holdings new.first.value) (holdings new.library)
           (λ i. record {
-            first = record { graph = sym k.graph i; aliases = sym k.aliases i };
+            first = record { graph = sym k.graph i; aliases = ap (λ f. f.value) (sym k.aliases) i };
             source = record { directory = ap string_bytes (sym k.directory) i; texts = ap (λ l. (holdings l).told) (sym k.library) i };
             pages = sym k.books.1 i;
           })

@@ -2,3 +2,4 @@ pub mod Dismissing
 pub mod Keeping
 pub mod Living
 pub mod Opened
+pub mod Learning

@@ -1,6 +1,7 @@
 -- What a caller has that has no entry, and what a runtime begins with.
 use Rattle.std.proofs.Common.{◌≡◌, ◌≢◌, ℕ, suc, eqb, Bool, not, ◌&&◌, cond, List, [], ◌∷◌, ◌++◌, length, sym, refl, ap, ◌∙◌, subst, ne_eqb, arith}
 use Rattle.std.specs.List.{filter, AllByRecursion}
+use Rattle.derivation_cache.specs.Known.{none_known}
 use Rattle.outside.specs.Faults.{RoseBy}
 use Rattle.outside.specs.Moments.{Holdings}
 use Rattle.history_core.specs.History.{History, EachNumber}
@@ -35,11 +36,12 @@ rose_none : (k : ℕ) → RoseBy 0 k k
 rose_none k = omega arith
 
 -- A desk whose library was handed in just now, and whose books have no entry, stands for the empty history.
-pub first_stands : {L : Type 0} (holdings : L → Holdings) (desk : Desk L) → desk.counts.journal ≡ [] → desk.counts.graph ≡ desk.graph → desk.first.value ≡ desk.library → IsDeskOf holdings desk []
-first_stands holdings desk journal graph first = record {
+pub first_stands : {L : Type 0} (holdings : L → Holdings) (desk : Desk L) → desk.counts.journal ≡ [] → desk.counts.graph ≡ desk.graph → desk.first.value ≡ desk.library → desk.cache ≡ none_known desk.graph → IsDeskOf holdings desk []
+first_stands holdings desk journal graph first cache = record {
   journal = journal;
   graph = graph;
   layouts = tt;
+  cache = cache;
   asked = subst (λ (h : Holdings). HasAsked (ground_of holdings desk).setting [] h (holdings desk.library)) (ap holdings (sym first)) (asked_first (ground_of holdings desk).setting (holdings desk.library));
   blamed = subst (λ (h : Holdings). RoseBy 0 h.faults (holdings desk.library).faults) (ap holdings (sym first)) (rose_none (holdings desk.library).faults);
 }

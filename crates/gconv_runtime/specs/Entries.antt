@@ -34,4 +34,5 @@ pub record ClosesOn {L : Type 0} (old new : Desk L) (e : Noted) : Type 0 where
   pub library : new.library ≡ old.library
   pub directory : new.directory ≡ old.directory
   pub layouts : new.layouts ≡ old.layouts
+  pub cache : new.cache ≡ old.cache
   pub first : new.first ≡ old.first

@@ -1,5 +1,5 @@
 -- What an opening does to its caller.
-use Rattle.std.specs.Prelude.{◌≡◌, ◌+◌, ◌<◌, ◌≤◌, ℕ, List, length, Some}
+use Rattle.std.specs.Prelude.{◌≡◌, ◌⊎◌, ◌+◌, ◌<◌, ◌≤◌, ℕ, true, List, [], ◌∷◌, ◌++◌, length, Some}
 use Rattle.std.specs.List.{flat_map}
 use Rattle.chain_recipes.specs.Recipes.{recipe_for}
 use Rattle.chain_search.specs.declared.chain.Chain.{Chain}
@@ -14,6 +14,7 @@ use Rattle.runtime_histories.specs.declared.entries.Reply.{Reply}
 use Rattle.runtime_histories.specs.declared.entries.Reply.TheVariants as replies
 use Rattle.runtime_histories.specs.declared.loads.Load.{Load}
 use Rattle.runtime_histories.specs.declared.refusals.Asked.{Asked}
+use Rattle.runtime_histories.specs.declared.refusals.Asked.TheVariants.{Good, Bad}
 use Rattle.runtime_histories.specs.declared.refusals.Refusal.{Refusal}
 use Rattle.runtime_histories.specs.declared.refusals.Refusal.TheVariants.{JournalFull, Memory}
 use Rattle.runtime_histories.specs.Charmaps.{AreTablesOf}
@@ -21,6 +22,7 @@ use Rattle.runtime_histories.specs.Deeds.{live}
 use Rattle.runtime_histories.specs.Legal.{IsAnswered}
 use Rattle.runtime_histories.specs.Settings.{Setting, charmaps_at}
 use Rattle.runtime_room.specs.Grounds.{Ground}
+use Rattle.runtime_room.specs.Published.{has_opened}
 use Rattle.runtime_room.specs.Rooms.{deeds_of}
 use Rattle.runtime_room.specs.declared.desk.Desk.{Desk}
 use Rattle.runtime_room.specs.declared.desk.Noted.{Noted}
@@ -48,6 +50,12 @@ HasRoom g log = length log + length (live (deeds_of log)) + 2 ≤ g.limit
 abbrev pub LacksRoom : Ground → History Noted → Type 0
 LacksRoom g log = g.limit < length log + length (live (deeds_of log)) + 2
 
+-- The pair was opened in a history.
+abbrev pub WasOpened : Asked → Asked → History Noted → Type 0
+WasOpened (Good from) (Good to) log = has_opened from to log ≡ true
+WasOpened (Good from) (Bad fault) log = ⊥
+WasOpened (Bad fault) to log = ⊥
+
 -- An opening that was answered by a chain.
 pub record Answered : Type 0 where
   pub chain : Chain
@@ -62,6 +70,16 @@ module _ {L : Type 0} {g : Ghosts (Room L) (Desk L) Noted Ground} where
   -- What a text asks for: the name that it stands for, or why it stands for none.
   abbrev pub asked : Gconv L → Caller L (Desk L) Noted Ground g → List ℕ → Asked
   asked gconv caller text = asked_of (ground gconv caller).setting.first.aliases text
+
+  -- The entry of the opening, if it has one, stands behind what the caller had then seen. At most one step was
+  -- counted for each edge, and none where the pair was opened before.
+  pub record Searches (gconv : Gconv L) (before after : Caller L (Desk L) Noted Ground g) (from to : Asked)
+      (old new : ℕ) : Type 0 where
+    pub seen : History Noted
+    pub grows : Grows (number before) (front before) seen
+    pub point : (front after ≡ seen) ⊎ ((e : Noted) × (front after ≡ seen ++ (number before, e) ∷ []))
+    pub most : new ≤ old + length (ground gconv before).setting.first.graph.edges
+    pub none : WasOpened from to seen → new ≡ old
 
   -- A pair was opened. The entry is the one that is legal next. The new descriptor's number is the entry's
   -- position, its recipe is that of the entry's chain, its states are initial, and its tables are those of the

@@ -1,5 +1,6 @@
 //! Callers are made and ended, and the runtime is closed.
-ghost use Rattle.std.specs.Prelude.{◌≡◌, ◌≢◌, ◌<◌, ◌+◌, ◌^◌, ◌∷◌, [], length, IfOk, IfNone, IfSome, IsOk, OnOk, MatchResult};
+ghost use Rattle.std.specs.Prelude.{◌≡◌, ◌≢◌, ◌<◌, ◌+◌, ◌^◌, ◌∷◌, [], length, IfOk, IfNone, IfSome, OnErr, OnOk, MatchResult};
+ghost use Rattle.derivation_cache.specs.Known.{longer};
 ghost use Rattle.history_core.specs.History.{EachNumber, HasEnd, AreEnded, without};
 ghost use Rattle.outside.specs.Faults.{RoseBy};
 ghost use Rattle.runtime_histories.specs.Pins.{live_of};
@@ -9,9 +10,42 @@ ghost use Rattle.gconv_runtime.specs.Tokens.{Knows, Leads, number, front, lead_f
 ghost use Rattle.gconv_runtime.specs.Tokens.{away_of, ended_of, lead_ground};
 
 use crate::tokens::{Caller, Closed, Front, Gconv, Holding, Lead};
+use derivation_cache::Told;
 use outside::Library;
 use runtime_room::Desk;
 use std::alloc::AllocError;
+use std::sync::Wait;
+
+/// Keeps the longer of two lists.
+fn keep_longer(kept: &mut Told, told: Told)
+    ensures { kept.new ≡ longer kept.old told }
+{
+    if kept.len() < told.len() {
+        *kept = told;
+    }
+}
+
+/// Ends the cache, and hands out library and journal.
+fn closed_of<R: Wait, L>(rt: &R, desk: Desk<L>) -> Closed<L>
+    ensures library { result.library ≡ desk.library }
+    ensures journal { result.journal.items ≡ desk.counts.journal }
+{
+    let Desk {
+        counts,
+        graph: _,
+        aliases: _,
+        library,
+        directory: _,
+        layouts: _,
+        cache,
+        first: _,
+    } = desk;
+    cache.end(rt);
+    Closed {
+        library,
+        journal: counts.done(),
+    }
+}
 
 impl<L: Library> Lead<L> {
     /// How many callers were made and not ended.
@@ -23,7 +57,7 @@ impl<L: Library> Lead<L> {
 }
 
 impl<L: Library> Gconv<L> {
-    /// Makes the next caller, numbered from 1.
+    /// Makes the next caller, numbered from 1, where a view is left for it. It takes no turn.
     pub fn caller(&self, lead: &mut Lead<L>) -> Result<Caller<L>, AllocError>
         requires lead { Leads self.now lead.old }
         requires few { next_number lead.old < 2 ^ 32 }
@@ -33,14 +67,24 @@ impl<L: Library> Gconv<L> {
         ensures front { IfOk result (λ caller. front caller ≡ lead_front lead.old) }
         // The history has no entry of the number yet.
         ensures none { IfOk result (λ caller. EachNumber (λ n. n ≢ number caller) (front caller)) }
-        ensures next { next_number lead.new ≡ next_number lead.old + 1 }
-        ensures away { away_of lead.new ≡ next_number lead.old ∷ away_of lead.old }
+        ensures next { OnOk result (next_number lead.new ≡ next_number lead.old + 1) }
+        ensures away { OnOk result (away_of lead.new ≡ next_number lead.old ∷ away_of lead.old) }
         ensures ended { ended_of lead.new ≡ ended_of lead.old }
-        ensures made { IsOk result }
+        ensures err { OnErr result ((next_number lead.new ≡ next_number lead.old)
+            × (away_of lead.new ≡ away_of lead.old)) }
     {
+        let told = lead.told.share().ok_or(AllocError)?;
+        let heard = lead.told.share().ok_or(AllocError)?;
+        let mut view = lead.views.pop().ok_or(AllocError)?;
+        view.learn(heard);
         let pass = self.hall.split(&mut lead.lead)?;
         let _number = pass.number();
-        Ok(Caller { pass, live: 0 })
+        Ok(Caller {
+            pass,
+            view,
+            told,
+            live: 0,
+        })
     }
 
     /// Ends a caller that has no live descriptor.
@@ -67,13 +111,19 @@ impl<L: Library> Gconv<L> {
             });
         }
         let length = caller.pass.seen();
-        let Caller { pass, live: _ } = caller;
+        let Caller {
+            pass,
+            view: _,
+            told,
+            live: _,
+        } = caller;
         self.hall.join(&mut lead.lead, pass);
+        keep_longer(&mut lead.told, told);
         Ok(Front { length })
     }
 
-    /// Ends the runtime, and hands out its library and its journal, the whole history.
-    pub fn close(self, lead: Lead<L>) -> Closed<L>
+    /// Ends the runtime and its cache, and hands out its library and its journal, the whole history.
+    pub fn close<R: Wait>(self, rt: &R, lead: Lead<L>) -> Closed<L>
         requires lead { Leads self lead }
         requires home { length (away_of lead) ≡ 0 }
         ensures journal { result.journal.items ≡ entries_of (lead_front lead) }
@@ -89,46 +139,30 @@ impl<L: Library> Gconv<L> {
         ensures asked { HasAsked (lead_ground self lead).setting (entries_of (lead_front lead))
             (lead_ground self lead).handed (L.holdings result.library) }
     {
-        let Gconv { hall } = self;
-        let Lead { lead } = lead;
-        let Desk {
-            counts,
-            graph: _,
-            aliases: _,
-            library,
-            directory: _,
-            layouts: _,
-            first: _,
-        } = hall.close(lead);
-        Closed {
-            library,
-            journal: counts.done(),
-        }
+        let Gconv { hall, aliases: _ } = self;
+        let Lead {
+            lead,
+            views: _,
+            told: _,
+        } = lead;
+        closed_of(rt, hall.close(lead))
     }
 
     /// Ends the runtime whoever is away, and hands out library and journal where the value is at home.
-    pub fn abandon(self, lead: Lead<L>) -> Option<Closed<L>>
+    pub fn abandon<R: Wait>(self, rt: &R, lead: Lead<L>) -> Option<Closed<L>>
         requires lead { Leads self lead }
         ensures none { IfNone result (length (away_of lead) ≢ 0) }
         // Where nobody is away the journal is the whole history.
         ensures journal { IfSome result (λ closed. length (away_of lead) ≡ 0
             → closed.journal.items ≡ entries_of (lead_front lead)) }
     {
-        let Gconv { hall } = self;
-        let Lead { lead } = lead;
+        let Gconv { hall, aliases: _ } = self;
+        let Lead {
+            lead,
+            views: _,
+            told: _,
+        } = lead;
         let desk = hall.abandon(lead)?;
-        let Desk {
-            counts,
-            graph: _,
-            aliases: _,
-            library,
-            directory: _,
-            layouts: _,
-            first: _,
-        } = desk;
-        Some(Closed {
-            library,
-            journal: counts.done(),
-        })
+        Some(closed_of(rt, desk))
     }
 }

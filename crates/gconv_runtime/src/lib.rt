@@ -7,10 +7,13 @@
 mod calls;
 mod closing;
 mod converting;
+mod fields;
+mod hearing;
 mod held;
+mod knowing;
 mod making;
 mod opening;
 mod tokens;
 
 pub use held::Held;
-pub use tokens::{Caller, Closed, Descriptor, Front, Gconv, Holding, Lead, NoMemory};
+pub use tokens::{Caller, Closed, Descriptor, Front, Gconv, Holding, Known, Lead, NoMemory};

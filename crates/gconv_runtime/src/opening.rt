@@ -1,15 +1,17 @@
 //! Descriptors are opened.
-ghost use Rattle.std.specs.Prelude.{◌≡◌, ◌≤◌, ◌+◌, length, IfOk, IfErr};
+ghost use Rattle.std.specs.Prelude.{◌≡◌, ◌≤◌, length, IfOk, IfErr};
 ghost use Rattle.text_lines.specs.Limits.{longest_text};
-ghost use Rattle.gconv_runtime.specs.Tokens.{Knows, number, ground};
+ghost use Rattle.pair_openings.specs.Answers.{IsProper};
+ghost use Rattle.gconv_runtime.specs.Tokens.{Knows, number};
 ghost use Rattle.gconv_runtime.specs.Owning.{Owns};
-ghost use Rattle.gconv_runtime.specs.Openings.{asked, Opens, Refuses};
+ghost use Rattle.gconv_runtime.specs.Openings.{asked, Opens, Refuses, Searches};
 
+use crate::hearing::{begin_heard, prepare_heard};
 use crate::tokens::{Caller, Descriptor, Gconv};
 use chain_steps::Runner;
-use desk_openings::{Beginning, Ready, begin_on, enter, prepare};
+use desk_openings::{Beginning, Ready, enter};
 use outside::Library;
-use runtime_histories::Refusal;
+use runtime_histories::{Asked, Refusal};
 use runtime_room::put_modules;
 use std::alloc::Global;
 use std::sync::Wait;
@@ -17,8 +19,8 @@ use std::sync::ledger::Ledger;
 use work_steps::Steps;
 
 impl<L: Library> Gconv<L> {
-    /// Opens a pair of names. It holds the turn while it searches the chain, fetches the texts that are
-    /// missing and stores their tables.
+    /// Opens a pair of names. It holds the turn while it searches the chain, where the pair wasn't
+    /// opened before, fetches the texts that are missing and stores their tables.
     pub fn open_pair<R: Wait, K: Ledger>(
         &self,
         rt: &R,
@@ -40,12 +42,50 @@ impl<L: Library> Gconv<L> {
             (asked self.now caller.old from.now) (asked self.now caller.old to.now)) }
         // What the caller owned it owns.
         ensures others { (d : Descriptor) → Owns self.now caller.old d → Owns self.now caller.new d }
-        ensures steps { steps.new
-            ≤ steps.old + length (ground self.now caller.old).setting.first.graph.edges }
+        // No step is counted where the pair was opened before, by whomever.
+        ensures steps { Searches self.now caller.old caller.new
+            (asked self.now caller.old from.now) (asked self.now caller.old to.now)
+            steps.old steps.new }
+    {
+        let source = pair_openings::asked(&self.aliases, from);
+        let target = pair_openings::asked(&self.aliases, to);
+        self.open_asked(rt, alloc, caller, source, target, steps)
+    }
+
+    /// Opens a pair of names as asked.
+    fn open_asked<R: Wait, K: Ledger>(
+        &self,
+        rt: &R,
+        alloc: Global,
+        caller: &mut Caller<L>,
+        from: Asked,
+        to: Asked,
+        steps: &mut Steps<K>,
+    ) -> Result<Descriptor, Refusal>
+        requires knows { Knows self.now caller.old }
+        requires from { IsProper from }
+        requires to { IsProper to }
+        ensures knows { Knows self.now caller.new }
+        ensures number { number caller.new ≡ number caller.old }
+        ensures ok { IfOk result (Opens self.now caller.old caller.new from to) }
+        ensures owns { IfOk result (Owns self.now caller.new) }
+        ensures err { IfErr result (Refuses self.now caller.old caller.new from to) }
+        ensures others { (d : Descriptor) → Owns self.now caller.old d → Owns self.now caller.new d }
+        ensures steps { Searches self.now caller.old caller.new from to steps.old steps.new }
     {
         let number = caller.pass.number();
         let mut turn = self.hall.turn(rt, &mut caller.pass);
-        let begun = match begin_on(alloc, turn.value(), number, from, to, steps) {
+        let begun = match begin_heard(
+            rt,
+            alloc,
+            turn.value(),
+            &mut caller.view,
+            &mut caller.told,
+            number,
+            from,
+            to,
+            steps,
+        ) {
             Beginning::Begun(begun) => begun,
             Beginning::Lost(why) => {
                 turn.leave();
@@ -56,7 +96,14 @@ impl<L: Library> Gconv<L> {
                 return Err(why);
             }
         };
-        let Ok(ready) = prepare(alloc, turn.value(), begun) else {
+        let Ok(ready) = prepare_heard(
+            rt,
+            alloc,
+            turn.value(),
+            &mut caller.view,
+            &mut caller.told,
+            begun,
+        ) else {
             turn.leave();
             return Err(Refusal::Memory);
         };

@@ -2,3 +2,4 @@ pub mod Putting
 pub mod Covering
 pub mod Acts
 pub mod Asking
+pub mod Publishing

@@ -4,6 +4,7 @@ use Rattle.std.specs.List.{AllByRecursion}
 use Rattle.std.specs.declared.vec.Vec.{Vec}
 use Rattle.std.specs.declared.alloc.Global.{Global}
 use Rattle.code_pairs.specs.Tables.{Table}
+use Rattle.code_table.specs.Ascii.{is_ascii}
 use Rattle.code_table.specs.Images.{root_of, page_count}
 use Rattle.code_table.specs.declared.image.Layout.{Layout}
 use Rattle.history_core.specs.History.{History}
@@ -21,6 +22,7 @@ use Rattle.runtime_histories.specs.Places.{Placed, places}
 use Rattle.runtime_histories.specs.Settings.{Setting}
 use Rattle.pair_openings.specs.Plans.{Asked}
 use Rattle.runtime_room.specs.Grounds.{Ground}
+use Rattle.runtime_room.specs.Published.{published}
 use Rattle.runtime_room.specs.Rooms.{entries_of, deeds_of}
 use Rattle.runtime_room.specs.declared.desk.Desk.{Desk}
 use Rattle.runtime_room.specs.declared.desk.Noted.{Noted}
@@ -45,7 +47,7 @@ blame (e ∷ es) = blamed_in e.event + blame es
 
 -- The parts of a table's page image.
 abbrev pub layout_of : Table → Layout
-layout_of t = record { root = root_of t; pages = page_count t }
+layout_of t = record { root = root_of t; pages = page_count t; ascii = is_ascii t }
 
 -- The parts that are kept of the images of a module's tables.
 abbrev pub layouts_at : List (Vec Layout Global) → ℕ → List Layout
@@ -61,7 +63,7 @@ IsLaidOut ls x = layouts_at ls x.«module» ≡ map layout_of x.tables
 abbrev pub ground_of : {L : Type 0} → (L → Holdings) → Desk L → Ground
 ground_of holdings desk = record {
   setting = record {
-    first = record { graph = desk.graph; aliases = desk.aliases };
+    first = record { graph = desk.graph; aliases = desk.aliases.value };
     source = record { directory = string_bytes desk.directory; texts = (holdings desk.library).told };
     pages = desk.counts.pages;
   };
@@ -77,12 +79,13 @@ pub record HasAsked (s : Setting) (entries : List Entry) (old new : Holdings) : 
   pub fetched : FetchesLoose s entries more
 
 -- The books are those of the entries and of the graph, the parts of the images of resident tables are
--- kept, and since it was handed in the library was asked for what the entries ask for, and is blamed at
--- most as often as it failed.
+-- kept, the pairs that were opened are published, and since it was handed in the library was asked for what the
+-- entries ask for, and is blamed at most as often as it failed.
 pub record IsDeskOf {L : Type 0} (holdings : L → Holdings) (desk : Desk L) (log : History Noted) : Type 0 where
   pub journal : desk.counts.journal ≡ entries_of log
   pub graph : desk.counts.graph ≡ desk.graph
   pub layouts : AllByRecursion (IsLaidOut desk.layouts.items) (places desk.counts.pages (deeds_of log))
+  pub cache : desk.cache ≡ published desk.graph log
   pub asked : HasAsked (ground_of holdings desk).setting (entries_of log) (holdings desk.first.value)
       (holdings desk.library)
   pub blamed : RoseBy (blame (entries_of log)) (holdings desk.first.value).faults (holdings desk.library).faults

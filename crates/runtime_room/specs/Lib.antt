@@ -1,5 +1,6 @@
 pub mod Grounds
 pub mod Rooms
+pub mod Published
 pub mod Desks
 pub mod Puts
 pub mod Apart

@@ -1,6 +1,7 @@
 //! What a turn lends.
 
 use code_table::Layout;
+use derivation_cache::Cache;
 use module_counts::Counts;
 use module_graph::Graph;
 use names_alias::Aliases;
@@ -13,15 +14,17 @@ pub struct Noted {
     pub entry: Snapshot<Entry>,
 }
 
-/// The books, and what openings need: the graph, the aliases, the library and its directory, and of
-/// each module the parts of the page images of its tables, as they were when it was loaded last.
+/// The books, and what openings need: the graph, the library and its directory, of each module the
+/// parts of the page images of its tables, as they were when it was loaded last, and the chains that
+/// were found before. The aliases stand elsewhere; contracts alone see them here.
 #[derive(Drop)]
 pub struct Desk<L> {
     pub counts: Counts,
     pub graph: Graph,
-    pub aliases: Aliases,
+    pub aliases: Snapshot<Aliases>,
     pub library: L,
     pub directory: String,
     pub layouts: Vec<Vec<Layout>>,
+    pub cache: Cache,
     pub first: Snapshot<L>,
 }

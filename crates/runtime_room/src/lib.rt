@@ -7,9 +7,11 @@
 mod basis;
 mod desk;
 mod filling;
+mod laws;
 mod story;
 
 pub use basis::Basis;
 pub use desk::{Desk, Noted};
 pub use filling::put_modules;
+pub use laws::{opened_pairs_are_published, published_grows};
 pub use story::Room;

@@ -8,6 +8,7 @@ returns-in-Err-clause-desk g c = record {
   aliases = refl;
   directory = refl;
   layouts = refl;
+  cache = refl;
   first = refl;
   told = refused_told _ _ _ _ _ _ _ _ c.in-Err.why c.in-Err.ensures.err;
   count = refused_count _ _ _ _ _ _ _ _ c.in-Err.why c.in-Err.ensures.err;

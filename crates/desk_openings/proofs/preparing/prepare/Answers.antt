@@ -64,4 +64,5 @@ returns-clause-ok g c =
       recipe = c.in_ok-recipe.ensures;
       kept = kept;
       points = subst (AllByRecursion (AllByRecursion HasPoints)) c.as_slice.ensures.value c.see_points.ensures;
+      published = c.in_ok-publish.ensures;
     }

@@ -3,10 +3,12 @@ use Rattle.history_core.specs.Tokens as hall
 use Rattle.runtime_histories.specs.Deeds.{closed, IsLive}
 use Rattle.runtime_histories.specs.Entries.{deeds}
 use Rattle.runtime_histories.specs.Pins.{live_of}
+use Rattle.runtime_room.specs.Published.{published}
 use Rattle.runtime_room.specs.Rooms.{deeds_of}
 use Rattle.gconv_runtime.specs.Entries.{IsClosing, ClosesOn}
-use Rattle.gconv_runtime.specs.Tokens.{number, front}
-use Rattle.gconv_runtime.proofs.Dismissing.{still_live, live_later, live_is, closing_legal, closing_covered, closing_stands, closed_after, count_after, pass_same, owns_kept}
+use Rattle.gconv_runtime.specs.Tokens.{number, front, ground}
+use Rattle.gconv_runtime.proofs.Dismissing.{still_live, live_later, live_is, closing_legal, closing_covered, closing_stands, closing_published, closed_after, count_after, pass_same, owns_kept}
+use Rattle.gconv_runtime.proofs.Opened.{AtTurn, published_at, hears_at}
 use Rattle.gconv_runtime.proofs.tokens.Gconv.close_desc.Goals as goal
 
 pub enter_closing-entry-requires-clause-live : goal.enter_closing-entry-requires-clause-live
@@ -53,15 +55,23 @@ returns-clause-knows g c =
     let log = hall.front c.turn-turn.result.pass.now in
     let s = still_live _ n c.args.descriptor.number (front c.args.caller.now) log o.desc t.turn_of.legal t.grows o.live o.found in
     let is = subst (λ (m : ℕ). IsClosing m c.args.descriptor.number e) c.number-number.ensures.value c.enter_closing-entry.ensures.entry in
-    let later = live_later _ n (front c.args.caller.now) log t.turn_of.legal t.grows in
-    let less : c.args.caller.now.live ≡ length (live_of n (deeds_of (log ++ (n, e) ∷ []))) + 1 = k.count ∙ (sym (ap length later) ∙ count_after log n c.args.descriptor.number o.desc e is s.live s.found) in
+    let before = live_later _ n (front c.args.caller.now) log t.turn_of.legal t.grows in
+    let less : c.args.caller.now.live ≡ length (live_of n (deeds_of (log ++ (n, e) ∷ []))) + 1 = k.count ∙ (sym (ap length before) ∙ count_after log n c.args.descriptor.number o.desc e is s.live s.found) in
     let same = c.commit.ensures.number ∙ t.number_is in
     let ends = c.commit.ensures.front ∙ ap (λ (m : ℕ). log ++ (m, e) ∷ []) t.number_is in
+    let gr = ground c.args.self.now c.args.caller.now in
+    let a = c.turn-turn.result.value in
+    let at : AtTurn g.L.Library.holdings gr a log = record { told = t.told; legal = t.turn_of.legal; stands = t.stands } in
+    let cached = ap (λ d. d.cache) (c.value-2.ensures.now ∙ c.value.ensures.now) in
+    let later = sym (closing_published gr.setting.first.graph log n c.args.descriptor.number e is) ∙ ap (published gr.setting.first.graph) (sym ends) in
     record {
       own = pass_same _ _ _ c.turn-turn.ensures.same.1 c.commit.ensures.pass;
       some = subst (λ (m : ℕ). 0 < m) (sym same) k.some;
       count = less_is c.args.caller.now.live (length (live_of n (deeds_of (log ++ (n, e) ∷ [])))) less ∙ sym (λ i. length (live_of (same i) (deeds_of (ends i))));
       room = k.room;
+      aliases = k.aliases;
+      view = published_at g.L.Library.holdings gr a log at c.enter_closing-entry.new.view (c.enter_closing-entry.ensures.heard.0 ∙ cached) ∙ later;
+      told = published_at g.L.Library.holdings gr a log at c.enter_closing-entry.new.told (c.enter_closing-entry.ensures.heard.1 ∙ cached) ∙ later;
     }
   where
     less_is : (a b : ℕ) → a ≡ b + 1 → a - 1 ≡ b
@@ -94,3 +104,12 @@ returns-clause-others g c d ne owned =
     owns_kept c.args.self.now c.args.caller.now _ d (rest ++ (n, e) ∷ []) (c.commit.ensures.number ∙ t.number_is) k.some
     (ends ∙ (ap (λ z. z ++ (n, e) ∷ []) t.grows.1 ∙ append_assoc (front c.args.caller.now) rest ((n, e) ∷ []))) own.legal
     (ap (λ z. closed d.number (deeds_of z)) ends ∙ closed_after log n c.args.descriptor.number d.number e is (λ z. ne (sym z)) (live_is n d.number (deeds_of log) owned.desc s.live s.found).unclosed) owned
+
+pub enter_closing-entry-requires-clause-view : goal.enter_closing-entry-requires-clause-view
+enter_closing-entry-requires-clause-view g c =
+    let t = c.turn-turn.ensures.took in
+    let log = hall.front c.turn-turn.result.pass.now in
+    let a = c.turn-turn.result.value in
+    let gr = ground c.args.self.now c.args.caller.now in
+    let at : AtTurn g.L.Library.holdings gr a log = record { told = t.told; legal = t.turn_of.legal; stands = t.stands } in
+    hears_at g.L.Library.holdings gr a log at (front c.args.caller.now) (number c.args.caller.now) c.value-2.result.now c.args.caller.now.view t.grows (c.value-2.ensures.now ∙ c.value.ensures.now) c.requires.knows.view

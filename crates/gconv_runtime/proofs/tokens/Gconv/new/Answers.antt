@@ -5,5 +5,6 @@ use Rattle.gconv_runtime.proofs.tokens.Gconv.new.Goals as goal
 pub overflow_mul-pages : goal.overflow_mul-pages
 overflow_mul-pages g c = let p = c.requires.pages in omega arith
 
-pub new-requires-3-clause-stands : goal.new-requires-3-clause-stands
-new-requires-3-clause-stands g c = first_stands g.L.Library.holdings _ c.in-Ok.ensures.empty c.in-Ok.ensures.graph c.of-first.ensures
+pub new-requires-4-clause-stands : goal.new-requires-4-clause-stands
+new-requires-4-clause-stands g c =
+    first_stands g.L.Library.holdings _ c.in-Ok.ensures.empty c.in-Ok.ensures.graph c.of-first.ensures (c.heard_of.ensures.same ∙ c.in-Ok-new.ensures)
