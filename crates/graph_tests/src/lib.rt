@@ -11,3 +11,5 @@ mod graphs;
 mod names;
 #[cfg(test)]
 mod small;
+#[cfg(test)]
+mod texts;

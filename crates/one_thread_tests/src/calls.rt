@@ -1,24 +1,26 @@
-//! The calls of a runtime, each with its conditions tested first. None of them changes the modules.
+//! What a line asks for, and what is written for it.
 
-ghost use Rattle.std.specs.Prelude.{◌≡◌, ◌<◌, ◌≤◌, length};
+ghost use Rattle.std.specs.Prelude.{◌≡◌, ◌<◌, ◌≤◌, length, IfOk, IfSome};
 ghost use Rattle.text_lines.specs.Limits.{longest_text};
+ghost use Rattle.chain_steps.specs.Chains.{initial};
+ghost use Rattle.conversion_book.specs.Runtime.{IsHeld, held_at};
 
-use crate::pieces::Pieces;
-use chain_steps::{Progress, Reset};
-use conversion_book::Book;
-use outside::Library;
+use crate::descriptors::{add_whole, use_live};
+use crate::desk::Desk;
+use crate::journal::add_journal;
+use crate::refusals::add_refusal;
+use crate::words::{Few, add_number, number, short};
 use runtime_histories::Refusal;
 use std::alloc::{AllocError, Global};
 use std::marker::Brand;
 use std::sync::ledger::{Blank, Ledger};
-use step_buffers::{Buffers, Finish, Whole};
-use text_lines::LONGEST_TEXT;
+use step_buffers::Buffers;
 use work_steps::Steps;
 
 /// Opens a pair, with a counter of steps of its own.
-fn open_with<L: Library, K: Ledger>(
+fn open_with<K: Ledger>(
     ledger: Blank,
-    book: &mut Book<L>,
+    desk: &mut Desk,
     caller: u32,
     from: &[u8],
     to: &[u8],
@@ -28,146 +30,124 @@ fn open_with<L: Library, K: Ledger>(
     requires some { 0 < ledger.parts }
     requires from { length from.now ≤ longest_text }
     requires to { length to.now ≤ longest_text }
-    ensures graph { book.new.books.graph ≡ book.old.books.graph }
+    ensures held { IfOk result (IsHeld desk.new.book) }
+    ensures fresh { IfOk result (λ n.
+        IfSome (held_at n desk.new.book.held) (λ h. h.machine.states ≡ initial)) }
 {
     let mut steps: Steps<K> = Steps::new(ledger);
-    book.open_pair(caller, from, to, &mut steps)
+    desk.book.open_pair(caller, from, to, &mut steps)
 }
 
 /// Opens a pair.
-pub fn open<L: Library>(
-    book: &mut Book<L>,
-    caller: u32,
-    from: &[u8],
-    to: &[u8],
-) -> Result<u64, Refusal>
+fn open(desk: &mut Desk, caller: u32, from: &[u8], to: &[u8]) -> Result<u64, Refusal>
     requires from { length from.now ≤ longest_text }
     requires to { length to.now ≤ longest_text }
-    ensures graph { book.new.books.graph ≡ book.old.books.graph }
+    ensures held { IfOk result (IsHeld desk.new.book) }
+    ensures fresh { IfOk result (λ n.
+        IfSome (held_at n desk.new.book.held) (λ h. h.machine.states ≡ initial)) }
 {
-    open_with::<L, Brand>(Blank::new(1), book, caller, from, to)
+    open_with::<Brand>(Blank::new(1), desk, caller, from, to)
 }
 
-/// Closes a descriptor. The answer says whether it was live.
-pub fn close<L: Library>(book: &mut Book<L>, caller: u32, number: u64) -> bool
-    ensures graph { book.new.books.graph ≡ book.old.books.graph }
+/// Opens the pair of a line.
+fn open_words(desk: &mut Desk, words: &[&str; 5]) -> Result<u64, Refusal>
+    ensures held { IfOk result (IsHeld desk.new.book) }
+    ensures fresh { IfOk result (λ n.
+        IfSome (held_at n desk.new.book.held) (λ h. h.machine.states ≡ initial)) }
 {
-    if !book.is_live(caller, number) {
-        return false;
-    }
-    book.close_desc(caller, number);
-    true
+    open(desk, number(words[1]), short(words[2]), short(words[3]))
 }
 
-/// Makes one call of a descriptor, where it is live.
-pub fn convert<L: Library>(
-    book: &mut Book<L>,
-    caller: u32,
-    number: u64,
-    input: &[u8],
-    output: &mut [u8],
-) -> Option<Progress>
-    ensures graph { book.new.books.graph ≡ book.old.books.graph }
-    ensures length { length output.new ≡ length output.old }
-{
-    if !book.is_live(caller, number) {
-        return None;
-    }
-    Some(book.convert(number, input, output))
-}
-
-/// Returns to the initial states of a descriptor, where it is live.
-pub fn reset<L: Library>(
-    book: &mut Book<L>,
-    caller: u32,
-    number: u64,
-    output: &mut [u8],
-) -> Option<Reset>
-    ensures graph { book.new.books.graph ≡ book.old.books.graph }
-    ensures length { length output.new ≡ length output.old }
-{
-    if !book.is_live(caller, number) {
-        return None;
-    }
-    Some(book.reset(number, output))
-}
-
-/// Lends a descriptor to a work, where it is live.
-pub fn lend<L: Library>(
-    book: &mut Book<L>,
-    caller: u32,
-    number: u64,
-    work: Pieces,
-) -> Option<Result<Whole, AllocError>>
-    ensures graph { book.new.books.graph ≡ book.old.books.graph }
-{
-    if !book.is_live(caller, number) {
-        return None;
-    }
-    Some(book.with_held(number, work))
-}
-
-/// An input that was converted whole.
-#[derive(Drop)]
-pub struct Converted {
-    pub number: u64,
-    pub bytes: Vec<u8>,
-    pub finish: Finish,
-}
-
-/// Opens a pair, converts a whole input by it, and leaves it open.
-fn whole_with<L: Library, K: Ledger>(
-    ledger: Blank,
+/// Converts a whole input by a descriptor whose conversion hasn't begun.
+fn convert_whole(
     alloc: Global,
-    book: &mut Book<L>,
-    caller: u32,
-    from: &[u8],
-    to: &[u8],
+    desk: &mut Desk,
+    number: u64,
     input: &[u8],
-) -> Result<Converted, Refusal>
-    requires name { ledger.name ≡ K.name }
-    requires parts { ledger.parts ≡ K.parts }
-    requires some { 0 < ledger.parts }
-    requires from { length from.now ≤ longest_text }
-    requires to { length to.now ≤ longest_text }
-    requires input { length input.now ≤ longest_text }
-    ensures graph { book.new.books.graph ≡ book.old.books.graph }
+    text: &mut String,
+) -> Result<(), AllocError>
+    requires held { IsHeld desk.old.book number }
+    requires fresh { IfSome (held_at number desk.old.book.held) (λ h. h.machine.states ≡ initial) }
+    requires short { length input.now ≤ 32 }
 {
-    let mut steps: Steps<K> = Steps::new(ledger);
-    let number = match book.open_pair(caller, from, to, &mut steps) {
-        Ok(number) => number,
-        Err(why) => return Err(why),
-    };
     let buffers = Buffers {
         output: Vec::new(alloc),
         scratch: Vec::new(alloc),
     };
-    match book.convert_whole(number, buffers, input) {
-        Ok((buffers, finish)) => {
-            let Buffers { output, scratch: _ } = buffers;
-            Ok(Converted {
-                number,
-                bytes: output,
-                finish,
-            })
-        }
-        Err(_) => Err(Refusal::Memory),
+    match desk.book.convert_whole(number, buffers, input) {
+        Ok((buffers, finish)) => add_whole(text, buffers.output.as_slice(), finish),
+        Err(fault) => Err(fault),
     }
 }
 
-/// Opens a pair, and converts a whole input by it.
-pub fn whole<L: Library>(
+/// Opens a pair, converts a whole input, and closes the pair.
+fn whole(
     alloc: Global,
-    book: &mut Book<L>,
-    caller: u32,
-    from: &[u8],
-    to: &[u8],
-    input: &[u8],
-) -> Result<Converted, Refusal>
-    requires from { length from.now ≤ longest_text }
-    requires to { length to.now ≤ longest_text }
-    requires input { length input.now ≤ longest_text }
-    ensures graph { book.new.books.graph ≡ book.old.books.graph }
-{
-    whole_with::<L, Brand>(Blank::new(1), alloc, book, caller, from, to, input)
+    desk: &mut Desk,
+    words: &[&str; 5],
+    text: &mut String,
+) -> Result<(), AllocError> {
+    match open_words(desk, words) {
+        Ok(at) => {
+            add_number(text, at)?;
+            text.push_str(" ")?;
+            convert_whole(alloc, desk, at, Few::of(words[4]).as_slice(), text)?;
+            close(desk, number(words[1]), at, text)
+        }
+        Err(why) => add_refusal(text, &why),
+    }
+}
+
+/// Closes a descriptor that is live.
+fn close(desk: &mut Desk, caller: u32, at: u64, text: &mut String) -> Result<(), AllocError> {
+    if !desk.book.is_live(caller, at) {
+        return text.push_str(" not live");
+    }
+    desk.book.close_desc(caller, at);
+    Ok(())
+}
+
+/// Appends the descriptor's number, or why there is none.
+fn opened(desk: &mut Desk, words: &[&str; 5], text: &mut String) -> Result<(), AllocError> {
+    match open_words(desk, words) {
+        Ok(number) => add_number(text, number),
+        Err(why) => add_refusal(text, &why),
+    }
+}
+
+/// Appends whether a module is resident.
+fn resident(desk: &Desk, module: u32, text: &mut String) -> Result<(), AllocError> {
+    if module >= desk.modules {
+        return text.push_str("no module");
+    }
+    text.push_str(if desk.book.resident(module) {
+        "true"
+    } else {
+        "false"
+    })
+}
+
+/// Does a line, and appends what is written for it.
+pub fn answer(
+    alloc: Global,
+    desk: &mut Desk,
+    words: &[&str; 5],
+    text: &mut String,
+) -> Result<(), AllocError> {
+    match words[0] {
+        "open" => opened(desk, words, text),
+        "whole" => whole(alloc, desk, words, text),
+        "resident" => resident(desk, number(words[1]), text),
+        "free" => add_number(text, desk.book.free_pages() as u64),
+        "spare" => add_number(text, desk.book.spare()),
+        "journal" => add_journal(text, desk.book.journal()),
+        _ => use_live(
+            alloc,
+            desk,
+            number(words[1]),
+            number(words[2]) as u64,
+            words,
+            text,
+        ),
+    }
 }

@@ -1,8 +1,9 @@
 //! Entries as lines.
 
-use crate::refusals::{name_text, refusal_text};
+use crate::refusals::{add_refusal, name_text};
+use crate::words::add_number;
 use runtime_histories::{Asked, Entry, Event, Load, Reply};
-use std::alloc::{AllocError, Global};
+use std::alloc::AllocError;
 
 /// A name as it was asked for; one that names nothing as ?.
 fn asked_text(asked: &Asked) -> &str {
@@ -12,26 +13,32 @@ fn asked_text(asked: &Asked) -> &str {
     }
 }
 
-/// Appends the ordinals of a chain.
-fn add_ordinals(text: &mut String, ordinals: &[u32]) -> Result<(), AllocError> {
+/// Appends the ordinals of a chain, and what it costs.
+fn add_chain(text: &mut String, cost: u64, ordinals: &[u32]) -> Result<(), AllocError> {
+    text.push_str("cost ")?;
+    add_number(text, cost)?;
+    text.push_str(" chain")?;
     for ordinal in ordinals {
-        write!(text, " {ordinal}")?;
+        text.push_str(" ")?;
+        add_number(text, *ordinal as u64)?;
     }
     Ok(())
 }
 
 /// Appends modules that were loaded, each with its pages.
 fn add_loads(text: &mut String, loads: &[Load]) -> Result<(), AllocError> {
+    text.push_str(" loaded")?;
     for load in loads {
-        let module = load.module;
-        let pages = load.pages;
-        write!(text, " {module}:{pages}")?;
+        text.push_str(" ")?;
+        add_number(text, load.module as u64)?;
+        text.push_str(":")?;
+        add_number(text, load.pages as u64)?;
     }
     Ok(())
 }
 
 /// Appends what an opening was answered.
-fn add_reply(alloc: Global, text: &mut String, reply: &Reply) -> Result<(), AllocError> {
+fn add_reply(text: &mut String, reply: &Reply) -> Result<(), AllocError> {
     match reply {
         Reply::Opened {
             chain,
@@ -39,40 +46,50 @@ fn add_reply(alloc: Global, text: &mut String, reply: &Reply) -> Result<(), Allo
             loaded,
             ..
         } => {
-            write!(text, "cost {cost} chain")?;
-            add_ordinals(text, chain.as_slice())?;
-            text.push_str(" loaded")?;
+            add_chain(text, *cost, chain.as_slice())?;
             add_loads(text, loaded.as_slice())
         }
-        Reply::Refused(why) => text.push_str(refusal_text(alloc, why)?.as_str()),
+        Reply::Refused(why) => add_refusal(text, why),
     }
 }
 
-/// Appends an entry.
-fn add_entry(
-    alloc: Global,
-    text: &mut String,
-    position: usize,
-    entry: &Entry,
-) -> Result<(), AllocError> {
-    let caller = entry.caller;
-    write!(text, "\n    {position} caller {caller} ")?;
-    match &entry.event {
+/// Appends the names that an opening asked for.
+fn add_names(text: &mut String, from: &str, to: &str) -> Result<(), AllocError> {
+    text.push_str("opens ")?;
+    text.push_str(from)?;
+    text.push_str(" ")?;
+    text.push_str(to)?;
+    text.push_str(": ")
+}
+
+/// Appends what came to pass.
+fn add_event(text: &mut String, event: &Event) -> Result<(), AllocError> {
+    match event {
         Event::Opening { from, to, reply } => {
-            let from = asked_text(from);
-            let to = asked_text(to);
-            write!(text, "opens {from} {to}: ")?;
-            add_reply(alloc, text, reply)
+            add_names(text, asked_text(from), asked_text(to))?;
+            add_reply(text, reply)
         }
-        Event::Closing { number } => write!(text, "closes {number}"),
+        Event::Closing { number } => {
+            text.push_str("closes ")?;
+            add_number(text, *number)
+        }
     }
 }
 
-/// All entries, each on a line of its own.
-pub fn journal_text(alloc: Global, entries: &[Entry]) -> Result<String, AllocError> {
-    let mut text = String::new(alloc);
+/// Appends the head of an entry's line.
+fn add_head(text: &mut String, position: u64, caller: u32) -> Result<(), AllocError> {
+    text.push_str("\n    ")?;
+    add_number(text, position)?;
+    text.push_str(" caller ")?;
+    add_number(text, caller as u64)?;
+    text.push_str(" ")
+}
+
+/// Appends all entries, each as a line of its own.
+pub fn add_journal(text: &mut String, entries: &[Entry]) -> Result<(), AllocError> {
     for (position, entry) in entries.iter().enumerate() {
-        add_entry(alloc, &mut text, position, entry)?;
+        add_head(text, position as u64, entry.caller)?;
+        add_event(text, &entry.event)?;
     }
-    Ok(text)
+    Ok(())
 }

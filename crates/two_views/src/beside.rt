@@ -1,18 +1,14 @@
 //! A view finds chains in one thread while another one publishes them.
-ghost use Rattle.std.specs.Prelude.{◌≡◌, ◌<◌, All};
+ghost use Rattle.std.specs.Prelude.{All};
 ghost use Rattle.derivation_cache.specs.Known.{IsLeastPair};
 
-use crate::asked::{ring, ring_pairs};
-use crate::finding::{find_all, publish, search_all};
-use anyhow::Result;
+use crate::finding::{find_all, publish};
 use derivation_cache::{Cache, Pair, View};
 use std::alloc::{AllocError, Global};
-use std::io::Print;
+use std::io::{self, Print};
 use std::sync::Wait;
 use std::sync::atomic::{AtomicBool, Ordering};
-use std::sync::ledger::{Blank, Ledger};
 use std::thread::{Threads, join};
-use work_steps::Steps;
 
 /// How often a view was asked for a pair, and how often it found one.
 #[derive(Clone, Copy, Drop)]
@@ -72,39 +68,18 @@ pub fn look_beside<R: Threads + Wait + Sync>(
     )
 }
 
-/// Writes how many of the chains of a ring a view finds when they are published.
-pub fn write_row<R: Threads + Wait + Sync + Print, L: Ledger>(
-    rt: &R,
-    ledger: Blank,
-    alloc: Global,
-    nodes: u32,
-) -> Result<()>
-    requires name { ledger.name ≡ L.name }
-    requires parts { ledger.parts ≡ L.parts }
-    requires some { 0 < ledger.parts }
-{
-    let mut steps: Steps<L> = Steps::new(ledger);
-    let graph = ring(alloc, nodes)?;
-    let asked = ring_pairs(alloc, nodes)?;
-    let pairs = search_all(alloc, &graph, &asked, &mut steps)?;
-    let mut cache = Cache::new(rt, alloc, &graph, 1)?;
-    let found = found_beside(rt, alloc, &mut cache, &pairs);
-    cache.end(rt);
-    println!(rt; "beside: {} of {} pairs", found?, pairs.len())?;
-    Ok(())
-}
-
-/// How many of the pairs the view of another thread finds when they are published.
-fn found_beside<R: Threads + Wait + Sync>(
+/// Writes how many of the pairs the view of another thread finds when they are published.
+pub fn write_found<R: Threads + Wait + Sync + Print>(
     rt: &R,
     alloc: Global,
     cache: &mut Cache,
+    view: &mut View,
     pairs: &[Pair],
-) -> Result<u32, AllocError>
+) -> io::Result<()>
     requires { All (IsLeastPair cache.old.graph) pairs.now }
 {
-    let mut view = cache.view()?;
-    let (published, _looks) = look_beside(rt, alloc, cache, pairs, &mut view, pairs);
+    let (published, _looks) = look_beside(rt, alloc, cache, pairs, view, pairs);
     published?;
-    Ok(find_all(&mut view, pairs))
+    let found = find_all(view, pairs);
+    println!(rt; "beside: {found} of {} pairs", pairs.len())
 }

@@ -1,55 +1,36 @@
 //! Chains that a search finds, a cache publishes and a view finds again.
-ghost use Rattle.std.specs.Prelude.{◌≡◌, All, IfOk, IfSome};
+ghost use Rattle.std.specs.Prelude.{◌≡◌, All, IfSome};
 ghost use Rattle.derivation_cache.specs.Known.{IsLeastPair};
 
-use crate::asked::Asked;
 use chain_search::least;
 use derivation_cache::{Cache, Pair, View};
 use module_graph::Graph;
+use names_alias::Name;
 use std::alloc::{AllocError, Global};
 use std::sync::Wait;
 use std::sync::ledger::Ledger;
 use work_steps::Steps;
 
-/// A pair with its chain, where it has one.
+/// A pair of names with its chain, where it has one.
 pub fn searched<L: Ledger>(
     alloc: Global,
     graph: &Graph,
-    asked: &Asked,
+    from: &Name,
+    to: &Name,
     steps: &mut Steps<L>,
-) -> Result<Option<Pair>, AllocError>
-    ensures { IfOk result (λ found. IfSome found (IsLeastPair graph.now)) }
+) -> Option<Pair>
+    ensures { IfSome result (IsLeastPair graph.now) }
 {
-    let (Some(source), Some(target)) = (graph.node_of(&asked.from), graph.node_of(&asked.to)) else {
-        return Ok(None);
-    };
-    match least(alloc, graph, source, target, steps)? {
-        None => Ok(None),
-        Some(chain) => Ok(Some(Pair {
-            from: asked.from.copied(),
-            to: asked.to.copied(),
+    let source = graph.node_of(from)?;
+    let target = graph.node_of(to)?;
+    match least(alloc, graph, source, target, steps) {
+        Ok(Some(chain)) => Some(Pair {
+            from: from.copied(),
+            to: to.copied(),
             chain,
-        })),
+        }),
+        _ => None,
     }
-}
-
-/// Those pairs that have a chain, with their chains.
-pub fn search_all<L: Ledger>(
-    alloc: Global,
-    graph: &Graph,
-    asked: &[Asked],
-    steps: &mut Steps<L>,
-) -> Result<Vec<Pair>, AllocError>
-    ensures { IfOk result (λ pairs. All (IsLeastPair graph.now) pairs.items) }
-{
-    let mut pairs = Vec::new(alloc);
-    for one in asked {
-        let Some(pair) = searched(alloc, graph, one, steps)? else {
-            continue;
-        };
-        pairs.push(pair)?;
-    }
-    Ok(pairs)
 }
 
 /// Adds all pairs to a cache.
