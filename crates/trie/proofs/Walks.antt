@@ -1,5 +1,5 @@
 -- Walks along words that are a trie's.
-use Rattle.std.proofs.Common.{◌≡◌, ℕ, suc, ◌+◌, ◌^◌, ◌<◌, ◌≤◌, Bool, true, false, List, [], ◌∷◌, ◌++◌, length, get_or, drop, Option, Some, None, refl, sym, ap, ◌∙◌, inl, inr, arith, length-append, ltb}
+use Rattle.std.proofs.Common.{◌≡◌, ℕ, zero, suc, ◌+◌, ◌^◌, ◌<◌, ◌≤◌, Bool, true, false, List, [], ◌∷◌, ◌++◌, length, get_or, drop, Option, Some, None, refl, sym, ap, ◌∙◌, inl, inr, arith, length-append, ltb}
 use Rattle.std.proofs.lemmas.List.{drop_more}
 use Rattle.std.proofs.lemmas.Bool.{cases_Bool, le-leb, lt-ltb, ltb-true}
 use Rattle.trie.specs.Fronts.{word_at, is_front}
@@ -97,6 +97,17 @@ walks leaves first ps ws h p (b ∷ bs) k used lt e ok =
     walks leaves first ps ws h p bs j (length q + 1) r.within
     (ap (λ n. n) (omega (arith, ap length r.there, length-append q (b ∷ [])))) (tail_bytes b bs ok)
     ∙ ap (λ v. walk_on leaves v bs) r.there)))
+
+-- a byte before bytes
+pub bytes_with : (b : ℕ) (bs : List ℕ) → b < 256 → AreBytes bs → AreBytes (b ∷ bs)
+bytes_with b bs lt h zero = lt
+bytes_with b bs lt h (suc i) = h i
+
+-- the first reference of a walk followed
+pub walk_from : (ws : List ℕ) (page b next : ℕ) (bs : List ℕ) → page_in (word_in ws page b) ≡ Some next →
+    walk_words ws next 1 bs ≡ walk_words ws page 0 (b ∷ bs)
+walk_from ws page b next bs e =
+    ap (λ o. walk_step (word_in ws page b) 1 o (λ n. walk_words ws n 1 bs)) (sym e)
 
 -- one reference of a walk followed
 pub walk_more : (ws vs : List ℕ) (page used next i : ℕ) (bs : List ℕ) → vs ≡ ws → i < length bs →

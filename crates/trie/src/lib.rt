@@ -20,5 +20,5 @@ mod words;
 pub use entry::{Entry, Leaves};
 pub use run::Run;
 pub use trie::{Fault, with_trie};
-pub use walk::{Walk, look};
+pub use walk::{Walk, look, look_on, page_in};
 pub use words::{Flat, Words};
