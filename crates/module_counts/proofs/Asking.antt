@@ -1,20 +1,20 @@
 -- What the bookkeeping answers.
-use Rattle.std.proofs.Common.{◌≡◌, ◌⊎◌, ℕ, ◌+◌, ◌<◌, eqb, Bool, true, false, not, ◌&&◌, ◌||◌, cond, List, [], ◌∷◌, ◌++◌, length, map, take, get_or, sym, refl, ap, ◌∙◌, Option, Some, None, inl, inr, ⊎_elim, true≢false, eq-eqb, ne_eqb, IsTrue}
+use Rattle.std.proofs.Common.{◌≡◌, ◌≢◌, ◌⊎◌, ℕ, ◌+◌, ◌<◌, ◌≤◌, eqb, Bool, true, false, not, ◌&&◌, ◌||◌, cond, List, [], ◌∷◌, ◌++◌, length, map, take, get_or, sym, refl, ap, ◌∙◌, inl, inr, ⊎_elim, true≢false, eq-eqb, ne_eqb, IsTrue, arith}
 use mathlib.Core.Logic.{dite}
 use native.Mathlib.Decide.{ℕ_discrete}
-use Rattle.std.specs.List.{filter, list_any, find}
-use Rattle.std.proofs.lemmas.List.{take_more}
+use Rattle.std.specs.List.{AllByRecursion, filter, list_any}
+use Rattle.std.proofs.lemmas.List.{take_more, get_or_past}
+use Rattle.std.proofs.lemmas.Bool.{cases_lt}
 use Rattle.module_graph.specs.declared.edge.Edge.{Edge}
 use Rattle.module_graph.specs.Graph.{Shape}
 use Rattle.module_graph.specs.Numbers.{with_new}
-use Rattle.module_counts.specs.declared.store.Place.{Place}
 use Rattle.module_counts.specs.declared.lives.Live.{Live}
 use Rattle.module_counts.specs.declared.stock.Stock.{Stock}
 use Rattle.runtime_histories.specs.Deeds.{Deeds, Desc, openings, closed, live, marks, IsIn, IsLive}
 use Rattle.runtime_histories.specs.Residence.{resident}
 use Rattle.module_counts.specs.Tracking.{is_kept, listed}
-use Rattle.runtime_histories.specs.Places.{Placed, pages_of, all_pages, all_needs, places}
-use Rattle.module_counts.specs.Stocks.{Seat, seat, seat_of, seat_pages}
+use Rattle.runtime_histories.specs.Places.{Placed, among, pages_of, all_pages, all_needs, places}
+use Rattle.module_counts.specs.Stocks.{Seat, seat_in, seat_of, seat_pages, kept_seats, lists, placed_modules}
 use Rattle.runtime_histories.specs.Settings.{module_at, modules_of}
 use Rattle.runtime_histories.specs.Legal.{absent_among}
 use Rattle.module_counts.specs.Counting.{shown, IsStock}
@@ -22,6 +22,7 @@ use Rattle.runtime_histories.proofs.Basics.{filter-append, filter-same, In-filte
 use Rattle.module_counts.proofs.Tracking.{is_kept-tracks}
 use Rattle.module_counts.proofs.Starting.{modules_of-more}
 use Rattle.module_counts.proofs.Tidying.{length-all_pages, seat_pages-all}
+use Rattle.module_counts.proofs.Homing.{length-lists}
 use Rattle.module_counts.proofs.Stocking.{in_modules}
 
 and_true : (a b : Bool) → (a && b) ≡ true → (a ≡ true) × (b ≡ true)
@@ -40,11 +41,11 @@ eqb_is : (a b : ℕ) → eqb a b ≡ true → a ≡ b
 eqb_is a b e = dite (ℕ_discrete a b) (λ (z : a ≡ b). z) (λ ne. absurd (true≢false (sym e ∙ ne_eqb a b ne)))
 
 -- The pages of all kept places are as many as the modules need.
-pub taken_is : (g : Shape) (s : Stock) (log : Deeds) → IsStock g s log → length (seat_pages (map seat s.placed.items)) ≡ all_needs (places s.pages log)
+pub taken_is : (g : Shape) (s : Stock) (log : Deeds) → IsStock g s log → length (seat_pages (kept_seats s.ages s.homes)) ≡ all_needs (places s.pages log)
 taken_is g s log h = ap (λ (z : List Seat). length (seat_pages z)) h.placed_is ∙ (ap length (seat_pages-all (places s.pages log)) ∙ length-all_pages (places s.pages log) h.tidy.fits)
 
 -- The kept pages are the placed ones.
-pub pages_are : (g : Shape) (s : Stock) (log : Deeds) → IsStock g s log → seat_pages (map seat s.placed.items) ≡ all_pages (places s.pages log)
+pub pages_are : (g : Shape) (s : Stock) (log : Deeds) → IsStock g s log → seat_pages (kept_seats s.ages s.homes) ≡ all_pages (places s.pages log)
 pages_are g s log h = ap seat_pages h.placed_is ∙ seat_pages-all (places s.pages log)
 
 -- the pages of a module, among seats
@@ -56,28 +57,45 @@ find_seats : (m : ℕ) (xs : List Placed) → seat_find m (map seat_of xs) ≡ p
 find_seats m [] = refl
 find_seats m (x ∷ xs) = ap (λ (z : List ℕ). cond (eqb x.«module» m) x.pages z) (find_seats m xs)
 
-abbrev found_pages : Option Place → List ℕ
-found_pages None = []
-found_pages (Some p) = p.pages.items
+find_rows : (m : ℕ) (rows : List (List ℕ)) (ks : List ℕ) → seat_find m (map (seat_in rows) ks) ≡ cond (among m ks) (get_or rows m []) []
+find_rows m rows [] = refl
+find_rows m rows (k ∷ ks) = dite (ℕ_discrete k m)
+    (λ (e : k ≡ m). ap (λ (b : Bool). cond b (get_or rows k []) (seat_find m (map (seat_in rows) ks))) (eq-eqb k m e)
+    ∙ (ap (λ (n : ℕ). get_or rows n []) e ∙ ap (λ (b : Bool). cond (b || among m ks) (get_or rows m []) []) (sym (eq-eqb k m e))))
+    (λ ne. ap (λ (b : Bool). cond b (get_or rows k []) (seat_find m (map (seat_in rows) ks))) (ne_eqb k m ne)
+    ∙ (find_rows m rows ks ∙ ap (λ (b : Bool). cond (b || among m ks) (get_or rows m []) []) (sym (ne_eqb k m ne))))
 
-find_places : (m : ℕ) (ps : List Place) → seat_find m (map seat ps) ≡ found_pages (find (λ (x : Place). eqb x.«module» m) ps)
-find_places m [] = refl
-find_places m (p ∷ ps) = go (eqb p.«module» m) (find_places m ps)
+among_kept : (p : ℕ → Bool) (m : ℕ) (ks : List ℕ) → p m ≡ true → among m (filter p ks) ≡ among m ks
+among_kept p m [] e = refl
+among_kept p m (k ∷ ks) e = go (p k) refl (among_kept p m ks e)
   where
-    go : (b : Bool) → seat_find m (map seat ps) ≡ found_pages (find (λ (x : Place). eqb x.«module» m) ps)
-        → cond b p.pages.items (seat_find m (map seat ps)) ≡ found_pages (cond b (Some p) (find (λ (x : Place). eqb x.«module» m) ps))
-    go true r = refl
-    go false r = r
+    go : (b : Bool) → p k ≡ b → among m (filter p ks) ≡ among m ks → among m (cond b (k ∷ filter p ks) (filter p ks)) ≡ (eqb k m || among m ks)
+    go true f r = ap (λ (b : Bool). eqb k m || b) r
+    go false f r = r ∙ sym (ap (λ (b : Bool). b || among m ks) (ne_eqb k m (λ (z : k ≡ m). true≢false (sym e ∙ (ap p (sym z) ∙ f)))))
 
-found_all : (g : Shape) (s : Stock) (log : Deeds) → IsStock g s log → (m : ℕ) (o : Option Place) → find (λ (x : Place). eqb x.«module» m) s.placed.items ≡ o → found_pages o ≡ pages_of m (places s.pages log)
-found_all g s log h m o e = ap found_pages (sym e) ∙ (sym (find_places m s.placed.items) ∙ (ap (seat_find m) h.placed_is ∙ find_seats m (places s.pages log)))
+placed_below : (n m : ℕ) (xs : List Placed) → AllByRecursion (λ k. k < n) (placed_modules xs) → n ≤ m → pages_of m xs ≡ []
+placed_below n m [] h le = refl
+placed_below n m (x ∷ xs) h le = let lt = h.0 in let ne : x.«module» ≢ m = omega arith in
+    ap (λ (b : Bool). cond b x.pages (pages_of m xs)) (ne_eqb x.«module» m ne) ∙ placed_below n m xs h.1 le
 
--- The pages of a module are those of its place, if it has one.
-pub found_some : (g : Shape) (s : Stock) (log : Deeds) → IsStock g s log → (m : ℕ) (p : Place) → find (λ (x : Place). eqb x.«module» m) s.placed.items ≡ Some p → p.pages.items ≡ pages_of m (places s.pages log)
-found_some g s log h m p e = found_all g s log h m (Some p) e
+-- The pages of a resident module are those of its row.
+pub row_is : (g : Shape) (s : Stock) (log : Deeds) → IsStock g s log → (m : ℕ) → resident (marks log) m ≡ true → get_or (lists s.homes.rows.items) m [] ≡ pages_of m (places s.pages log)
+row_is g s log h m e = ⊎_elim inside outside (cases_lt m (length s.ages.held.items))
+  where
+    inside : m < length s.ages.held.items → get_or (lists s.homes.rows.items) m [] ≡ pages_of m (places s.pages log)
+    inside lt =
+        let kept : is_kept s.ages m ≡ true = is_kept-tracks s.ages (marks log) m h.tracking lt ∙ e in
+        go (among m s.homes.order.items) refl
+        ∙ (ap (λ (b : Bool). cond b (get_or (lists s.homes.rows.items) m []) []) (sym (among_kept (is_kept s.ages) m s.homes.order.items kept))
+        ∙ (sym (find_rows m (lists s.homes.rows.items) (filter (is_kept s.ages) s.homes.order.items)) ∙ (ap (seat_find m) h.placed_is ∙ find_seats m (places s.pages log))))
+      where
+        go : (b : Bool) → among m s.homes.order.items ≡ b → get_or (lists s.homes.rows.items) m [] ≡ cond (among m s.homes.order.items) (get_or (lists s.homes.rows.items) m []) []
+        go true f = ap (λ (b : Bool). cond b (get_or (lists s.homes.rows.items) m []) []) (sym f)
+        go false f = h.homes.empty m f ∙ ap (λ (b : Bool). cond b (get_or (lists s.homes.rows.items) m []) []) (sym f)
 
-pub found_none : (g : Shape) (s : Stock) (log : Deeds) → IsStock g s log → (m : ℕ) → find (λ (x : Place). eqb x.«module» m) s.placed.items ≡ None → ◌≡◌ {A = List ℕ} [] (pages_of m (places s.pages log))
-found_none g s log h m e = found_all g s log h m None e
+    outside : length s.ages.held.items ≤ m → get_or (lists s.homes.rows.items) m [] ≡ pages_of m (places s.pages log)
+    outside le = get_or_past (lists s.homes.rows.items) m [] (let a = length-lists s.homes.rows.items in let b = h.homes.count in omega arith)
+        ∙ sym (placed_below (length s.ages.held.items) m (places s.pages log) h.tidy.known le)
 
 live_found : (n c : ℕ) (ds : List Desc) → list_any (λ (x : Live). eqb x.number n && eqb x.caller c) (map shown ds) ≡ true → (d : Desc) × IsIn d ds × (d.number ≡ n) × (d.caller ≡ c)
 live_found n c [] e = absurd (true≢false (sym e))

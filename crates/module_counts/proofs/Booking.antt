@@ -1,5 +1,5 @@
 -- What the bookkeeping keeps from one entry to the next.
-use Rattle.std.proofs.Common.{◌≡◌, ℕ, ◌+◌, ◌-◌, ◌≤◌, min, List, [], ◌∷◌, ◌++◌, length, map, get_or, vec_capacity, sym, ap, ◌∙◌, subst, arith, Option, Some, None}
+use Rattle.std.proofs.Common.{◌≡◌, ℕ, ◌+◌, ◌-◌, ◌≤◌, min, List, [], ◌∷◌, ◌++◌, length, get_or, vec_capacity, sym, ap, ◌∙◌, subst, arith, Option, Some, None}
 use Rattle.module_graph.specs.Graph.{Shape}
 use Rattle.runtime_histories.specs.declared.refusals.Asked.{Asked}
 use Rattle.runtime_histories.specs.declared.refusals.Asked.TheVariants.{Good, Bad}
@@ -10,10 +10,10 @@ use Rattle.runtime_histories.specs.declared.entries.Event.TheVariants.{Opening, 
 use Rattle.runtime_histories.specs.declared.entries.Entry.{Entry}
 use Rattle.module_counts.specs.declared.stock.Stock.{Stock}
 use Rattle.runtime_histories.specs.Deeds.{Deeds}
-use Rattle.module_counts.specs.Tracking.{IsTracking, IsRecent}
+use Rattle.module_counts.specs.Tracking.{IsTracking}
 use Rattle.runtime_histories.specs.Entries.{deeds}
 use Rattle.chain_search.specs.declared.chain.Chain.{Chain}
-use Rattle.module_counts.specs.Stocks.{seat}
+use Rattle.module_counts.specs.Stocks.{kept_among, lists, IsHomes}
 use Rattle.runtime_histories.specs.Settings.{Setting, Leads, modules_of}
 use Rattle.runtime_histories.specs.Legal.{IsAnswered, Next, absent_among}
 use Rattle.module_counts.specs.Admitting.{Success, success_of, success_by, CanTake, places_of, IsStepped, AreStepped}
@@ -21,15 +21,15 @@ use Rattle.module_counts.specs.Counting.{Booked, Follows, IsKnown, IsStock}
 use Rattle.runtime_histories.proofs.Legality.{sound_first}
 
 -- Nothing was opened.
-pub stock_first : (g : Shape) (s : Stock) → IsTracking s.ages [] → IsRecent s.ages → s.ages.clock ≡ 0 → ((m : ℕ) → get_or s.ages.held.items m 0 ≡ 0) → s.live.items ≡ [] → s.live.slots ≡ 0 → s.placed.items ≡ []
-    → IsKnown g (length s.ages.held.items) → length s.ages.held.items ≤ vec_capacity s.placed → IsStock g s []
-stock_first g s tracking recent clock none live_is slots_is placed known room = record {
+pub stock_first : (g : Shape) (s : Stock) → IsTracking s.ages [] → s.ages.clock ≡ 0 → ((m : ℕ) → get_or s.ages.held.items m 0 ≡ 0) → s.live.items ≡ [] → s.live.slots ≡ 0 → s.homes.order.items ≡ [] → IsHomes (length s.ages.held.items) s.homes
+    → IsKnown g (length s.ages.held.items) → length s.ages.held.items ≤ vec_capacity s.homes.order → IsStock g s []
+stock_first g s tracking clock none live_is slots_is placed homes known room = record {
   tracking = tracking;
-  recent = recent;
   within = record { clock = omega arith; held = λ m. let z = none m in omega arith };
   live_is = live_is;
   slots_is = slots_is;
-  placed_is = ap (map seat) placed;
+  placed_is = ap (λ (z : List ℕ). kept_among s.ages (lists s.homes.rows.items) z) placed;
+  homes = homes;
   sound = sound_first g;
   tidy = record { known = tt; once = tt; fits = tt; within = omega arith };
   known = known;

@@ -1,9 +1,10 @@
 pub mod Tracking
 pub mod Slots
-pub mod Going
 pub mod Starting
 pub mod Storing
 pub mod Tidying
+pub mod Homing
+pub mod Residing
 pub mod Living
 pub mod Stocking
 pub mod Entering

@@ -3,22 +3,18 @@ use Rattle.std.proofs.Common.{◌≡◌, ◌⊎◌, ℕ, ◌+◌, ◌*◌, ◌^�
 use mathlib.Core.Logic.{dite}
 use native.Mathlib.Decide.{ℕ_discrete}
 use Rattle.std.specs.List.{filter, cons_option, AllByRecursion, list_any}
-use Rattle.std.specs.declared.vec.Vec.{Vec}
-use Rattle.std.specs.declared.alloc.Global.{Global}
 use Rattle.module_graph.specs.declared.edge.Edge.{Edge}
 use Rattle.module_graph.specs.Graph.{Shape}
 use Rattle.module_graph.specs.Numbers.{with_new}
 use Rattle.runtime_histories.specs.declared.loads.Load.{Load}
-use Rattle.module_counts.specs.declared.store.Place.{Place}
+use Rattle.module_counts.specs.declared.homes.Homes.{Homes}
 use Rattle.module_counts.specs.declared.lives.Live.{Live}
 use Rattle.module_counts.specs.declared.stock.Stock.{Stock}
-use Rattle.runtime_histories.specs.Deeds.{Act, act, opens, closes, rests, Deeds, Desc, Loaded, live, pair_live, Mark, uses, releases, marks, IsIn, IsLive}
+use Rattle.runtime_histories.specs.Deeds.{Act, act, opens, closes, rests, Deeds, Desc, Loaded, live, closed, pair_live, Mark, uses, releases, marks, IsIn, IsLive}
 use Rattle.runtime_histories.specs.Residence.{resident}
-use Rattle.module_counts.specs.declared.ages.Ages.{Ages}
-use Rattle.module_counts.specs.Tracking.{IsTracking, IsRecent, IsWithin, KeepsAll, is_kept}
-use Rattle.module_counts.proofs.Tracking.{is_kept-tracks}
+use Rattle.module_counts.specs.Tracking.{IsTracking, IsWithin, is_kept}
 use Rattle.runtime_histories.specs.Places.{Placed, among, place_loads, place_deed, still, places}
-use Rattle.module_counts.specs.Stocks.{Seat, seat, seat_of, seated, Once, placed_modules, IsTidy}
+use Rattle.module_counts.specs.Stocks.{seat_in, seat_of, seated, lists, IsSettled, Settles, IsHomes, Once, placed_modules, IsTidy}
 use Rattle.runtime_histories.specs.Entries.{loaded_of}
 use Rattle.runtime_histories.specs.Settings.{module_at, modules_of}
 use Rattle.runtime_histories.specs.Legal.{absent_among, loaded_modules}
@@ -29,7 +25,9 @@ use Rattle.runtime_histories.proofs.Basics.{In-append, In-filter}
 use Rattle.runtime_histories.proofs.Pinning.{places-snoc, absent_not_resident}
 use Rattle.runtime_histories.proofs.Legality.{sound_opens, sound_rests, sound_closes}
 use Rattle.module_counts.proofs.Living.{live_is_opens, live_rests, live_is_closes, marks_opens, marks_rests, marks_closes}
-use Rattle.module_counts.proofs.Tidying.{tidy_filter, tidy_loads, seats-loads, length-places_for, length-tidy, length-place_loads, kept_all, kept_seats, AreNew}
+use Rattle.module_counts.proofs.Tidying.{tidy_filter, tidy_loads, seats-loads, modules-loads, seats-modules, length-places_for, length-tidy, kept-resident, AreNew}
+use Rattle.module_counts.proofs.Homing.{all_behind, length-lists, seats_settled, homes_settled}
+use Rattle.module_counts.proofs.Residing.{before_opening, before_closing, kept_before, filter-weaker}
 use Rattle.std.proofs.lemmas.List.{length-map}
 
 pub all_from_in : {A : Type 0} (P : A → Type 0) (xs : List A) → ((x : A) → IsIn x xs → P x) → AllByRecursion P xs
@@ -127,25 +125,25 @@ length-snoc : (log : Deeds) (e : Act) → length (log ++ e ∷ []) ≡ length lo
 length-snoc log e = length-append log (e ∷ [])
 
 -- what all three kinds of deeds share: the counters track the new marks, the places are those before with loads
-stock_after : (g : Shape) (s t : Stock) (log : Deeds) (e : Act) (mid : List Place) → IsStock g s log
-    → IsTracking t.ages (marks (log ++ e ∷ [])) → IsRecent t.ages → IsWithin t.ages (length (log ++ e ∷ []) * 2 ^ 64)
+stock_after : (g : Shape) (s t : Stock) (log : Deeds) (e : Act) (ks : List ℕ) → IsStock g s log
+    → IsTracking t.ages (marks (log ++ e ∷ [])) → IsWithin t.ages (length (log ++ e ∷ []) * 2 ^ 64)
     → t.live.items ≡ map shown (live (log ++ e ∷ [])) → t.live.slots ≡ s.live.slots + 1
-    → map seat mid ≡ map seat_of (place_deed s.pages e.deed (places s.pages log))
-    → t.placed.items ≡ filter (λ (x : Place). is_kept t.ages x.«module») mid
+    → map (seat_in (lists t.homes.rows.items)) ks ≡ map seat_of (place_deed s.pages e.deed (places s.pages log))
+    → filter (is_kept t.ages) t.homes.order.items ≡ filter (is_kept t.ages) ks → IsHomes (length s.ages.held.items) t.homes
     → IsTidy (length s.ages.held.items) s.pages (place_deed s.pages e.deed (places s.pages log))
-    → IsSound g (log ++ e ∷ []) → length t.ages.held.items ≡ length s.ages.held.items → t.pages ≡ s.pages → vec_capacity s.placed ≤ vec_capacity t.placed
+    → IsSound g (log ++ e ∷ []) → length t.ages.held.items ≡ length s.ages.held.items → t.pages ≡ s.pages → vec_capacity s.homes.order ≤ vec_capacity t.homes.order
     → IsStock g t (log ++ e ∷ [])
-stock_after g s t log e mid h tracking recent within live_is slots seats kept tidy sound len pages room =
+stock_after g s t log e ks h tracking within live_is slots seats kept homes tidy sound len pages room =
     let log' = log ++ e ∷ [] in
     let at : places t.pages log' ≡ still log' (place_deed s.pages e.deed (places s.pages log)) = ap (λ (z : ℕ). places z log') pages ∙ places-snoc s.pages log e in
     record {
       tracking = tracking;
-      recent = recent;
       within = within;
       live_is = live_is;
       slots_is = (let a = h.slots_is in let b = length-snoc log e in omega arith);
-      placed_is = ap (map seat) kept ∙ (kept_seats t.ages (marks log') mid (place_deed s.pages e.deed (places s.pages log)) tracking seats
+      placed_is = ap (map (seat_in (lists t.homes.rows.items))) kept ∙ (kept-resident t.ages (marks log') (lists t.homes.rows.items) ks (place_deed s.pages e.deed (places s.pages log)) tracking seats
           (subst (λ (z : ℕ). AllByRecursion (λ m. m < z) (placed_modules (place_deed s.pages e.deed (places s.pages log)))) (sym len) tidy.known) ∙ ap (map seat_of) (sym at));
+      homes = subst (λ (n : ℕ). IsHomes n t.homes) (sym len) homes;
       sound = sound;
       tidy = subst (λ (z : List Placed). IsTidy (length t.ages.held.items) t.pages z) (sym at)
           (subst (λ (n : ℕ). IsTidy n t.pages (still log' (place_deed s.pages e.deed (places s.pages log)))) (sym len)
@@ -156,97 +154,140 @@ stock_after g s t log e mid h tracking recent within live_is slots seats kept ti
       room = (let r = h.room in omega arith);
     }
 
+-- A deed that loads nothing and makes no module resident leaves the homes.
+stock_stays : (g : Shape) (s t : Stock) (log : Deeds) (e : Act) → IsStock g s log
+    → IsTracking t.ages (marks (log ++ e ∷ [])) → IsWithin t.ages (length (log ++ e ∷ []) * 2 ^ 64)
+    → t.live.items ≡ map shown (live (log ++ e ∷ [])) → t.live.slots ≡ s.live.slots + 1
+    → t.homes ≡ s.homes → place_deed s.pages e.deed (places s.pages log) ≡ places s.pages log
+    → ((m : ℕ) → resident (marks (log ++ e ∷ [])) m ≡ true → resident (marks log) m ≡ true)
+    → IsSound g (log ++ e ∷ []) → length t.ages.held.items ≡ length s.ages.held.items → t.pages ≡ s.pages
+    → IsStock g t (log ++ e ∷ [])
+stock_stays g s t log e h tracking within live_is slots homes same before sound len pages =
+    stock_after g s t log e (filter (is_kept s.ages) s.homes.order.items) h tracking within live_is slots
+    (ap (λ (z : Homes). map (seat_in (lists z.rows.items)) (filter (is_kept s.ages) s.homes.order.items)) homes ∙ (h.placed_is ∙ ap (map seat_of) (sym same)))
+    (ap (λ (z : Homes). filter (is_kept t.ages) z.order.items) homes
+    ∙ sym (filter-weaker (is_kept t.ages) (is_kept s.ages) s.homes.order.items (kept_before s.ages t.ages (marks log) (marks (log ++ e ∷ [])) h.tracking tracking len before)))
+    (subst (IsHomes (length s.ages.held.items)) (sym homes) h.homes)
+    (subst (IsTidy (length s.ages.held.items) s.pages) (sym same) h.tidy) sound len pages
+    (let r : vec_capacity s.homes.order ≡ vec_capacity t.homes.order = ap (λ (z : Homes). vec_capacity z.order) (sym homes) in omega arith)
+
 map_loaded : (ls : List Load) → loaded_modules (map loaded_of ls) ≡ map (λ (l : Load). l.«module») ls
 map_loaded [] = refl
 map_loaded (l ∷ ls) = ap (λ (z : List ℕ). l.«module» ∷ z) (map_loaded ls)
 
--- An opening that was answered by a chain.
-pub stock_opens : (g : Shape) (s t : Stock) (log : Deeds) (c n : ℕ) (v : Success) (ps : List (List ℕ)) (mid : List Place) → IsStock g s log → CanOpen g s.pages log v ps
-    → ((ms : List Mark) → IsTracking s.ages ms → IsTracking t.ages (ms ++ cond (pair_live log v.pair) [] (map uses v.modules))) → IsRecent t.ages
-    → ((m : ℕ) → get_or t.ages.held.items m 0 ≤ get_or s.ages.held.items m 0 + 2 ^ 64) → t.ages.clock ≡ s.ages.clock → length t.ages.held.items ≡ length s.ages.held.items
-    → n ≡ length log → t.live.items ≡ s.live.items ++ record { number = n; caller = c; generation = v.pair.generation; from = v.pair.from; to = v.pair.to } ∷ [] → t.live.slots ≡ s.live.slots + 1
-    → map seat mid ≡ map seat s.placed.items ++ seated (map (λ (l : Load). l.«module») v.loads) ps
-    → t.placed.items ≡ filter (λ (x : Place). is_kept t.ages x.«module») mid → t.pages ≡ s.pages → vec_capacity s.placed ≤ vec_capacity t.placed
-    → IsStock g t (log ++ act c (opens v.pair v.modules (map loaded_of v.loads)) ∷ [])
-stock_opens g s t log c n v ps mid h can tracks recent more clock len number live_is slots seats kept pages room =
-    let l = map loaded_of v.loads in let e : Act = act c (opens v.pair v.modules l) in
-    stock_after g s t log e mid h
-    (subst (IsTracking t.ages) (sym (marks_opens log c v.pair v.modules l)) (tracks (marks log) h.tracking)) recent
-    (record { clock = (let k = h.within.clock in let z = length-snoc log e in omega arith); held = λ m. let k = h.within.held m in let z = length-snoc log e in let y = more m in omega arith })
-    (live_is ∙ (ap (λ (z : List Live). z ++ record { number = n; caller = c; generation = v.pair.generation; from = v.pair.from; to = v.pair.to } ∷ []) h.live_is ∙ sym (live_is_opens log h.sound.balanced c v.pair n v.modules l number))) slots
-    (seats ∙ ((λ i. h.placed_is i ++ seated (sym (map_loaded v.loads) i) (can.places i)) ∙ sym (seats-loads s.pages l (places s.pages log))))
-    kept (tidy_open g s log v ps h can)
-    (sound_opens g log c v.pair v.modules l (record { ordinals = v.ordinals; cost = v.cost }) h.sound can.leads can.steps)
-    len pages room
+-- What is kept is placed.
+placed_are : (g : Shape) (s : Stock) (log : Deeds) → IsStock g s log → filter (is_kept s.ages) s.homes.order.items ≡ placed_modules (places s.pages log)
+placed_are g s log h = seats-modules (lists s.homes.rows.items) (filter (is_kept s.ages) s.homes.order.items) (places s.pages log) h.placed_is
 
--- A refused opening.
-pub stock_rests : (g : Shape) (s t : Stock) (log : Deeds) (c : ℕ) → IsStock g s log → t.ages ≡ s.ages → t.live.items ≡ s.live.items → t.live.slots ≡ s.live.slots + 1
-    → t.placed.items ≡ filter (λ (x : Place). is_kept t.ages x.«module») s.placed.items → t.pages ≡ s.pages → vec_capacity s.placed ≤ vec_capacity t.placed → IsStock g t (log ++ act c rests ∷ [])
-stock_rests g s t log c h ages live_is slots kept pages room = let e : Act = act c rests in
-    stock_after g s t log e s.placed.items h
-    (subst (λ z. IsTracking z (marks (log ++ e ∷ []))) (sym ages) (subst (IsTracking s.ages) (sym (marks_rests log c)) h.tracking))
-    (subst IsRecent (sym ages) h.recent)
-    (subst (λ z. IsWithin z (length (log ++ e ∷ []) * 2 ^ 64)) (sym ages) (record { clock = (let k = h.within.clock in let z = length-snoc log e in omega arith); held = λ m. let k = h.within.held m in let z = length-snoc log e in omega arith }))
-    (live_is ∙ (h.live_is ∙ ap (map shown) (sym (live_rests log h.sound.balanced c)))) slots
-    h.placed_is kept h.tidy (sound_rests g log c h.sound) (ap (λ z. length z.held.items) ages) pages room
-
--- A list that isn't said to have items has none.
-pub nothing_in : (xs : List Load) (none : Bool) → none ≡ eqb (length xs) 0 → not none ≡ false → xs ≡ []
-nothing_in [] none e n = refl
-nothing_in (x ∷ xs) true e n = absurd (true≢false (e ∙ ne_eqb (length (x ∷ xs)) 0 (λ z. absurd (omega arith))))
-nothing_in (x ∷ xs) false e n = absurd (true≢false n)
-
--- What is placed is still kept by counters that keep what these ones keep.
-pub still_all : (g : Shape) (s : Stock) (log : Deeds) → IsStock g s log → (a : Ages) → KeepsAll s.ages a → (xs : List Place) → map seat xs ≡ map seat s.placed.items
-    → AllByRecursion (λ (x : Place). is_kept a x.«module» ≡ true) xs
-still_all g s log h a keep xs e = walk xs (places s.pages log) (e ∙ h.placed_is) h.fresh h.tidy.known
-  where
-    walk : (xs : List Place) (ys : List Placed) → map seat xs ≡ map seat_of ys → AllByRecursion (λ m. resident (marks log) m ≡ true) (placed_modules ys)
-        → AllByRecursion (λ m. m < length s.ages.held.items) (placed_modules ys) → AllByRecursion (λ (x : Place). is_kept a x.«module» ≡ true) xs
-    walk [] ys e f k = tt
-    walk (x ∷ xs) [] e f k = absurd (let l = ap length e in omega arith)
-    walk (x ∷ xs) (y ∷ ys) e f k =
-        let head : seat x ≡ seat_of y = cc in
-        let tail : map seat xs ≡ map seat_of ys = cc in
-        let m : x.«module» ≡ y.«module» = ap (λ (z : Seat). z.«module») head in
-        let old : is_kept s.ages y.«module» ≡ true = is_kept-tracks s.ages (marks log) y.«module» h.tracking k.0 ∙ f.0 in
-        (ap (is_kept a) m ∙ keep y.«module» old, walk xs ys tail f.1 k.1)
-
--- A refused opening leaves all but its slot.
-pub stock_rested : (g : Shape) (s t : Stock) (log : Deeds) (c : ℕ) → IsStock g s log → t.ages ≡ s.ages → t.live.items ≡ s.live.items → t.live.slots ≡ s.live.slots + 1 → t.placed ≡ s.placed → t.pages ≡ s.pages
-    → IsStock g t (log ++ act c rests ∷ [])
-stock_rested g s t log c h ages live_is slots placed pages = stock_rests g s t log c h ages live_is slots
-    (ap (λ (z : Vec Place Global). z.items) placed ∙ (sym (kept_all (λ (x : Place). is_kept s.ages x.«module») s.placed.items (still_all g s log h s.ages (λ m z. z) s.placed.items refl))
-    ∙ ap (λ (z : Ages). filter (λ (x : Place). is_kept z x.«module») s.placed.items) (sym ages))) pages (let r : vec_capacity s.placed ≡ vec_capacity t.placed = ap (λ (z : Vec Place Global). vec_capacity z) (sym placed) in omega arith)
-
--- A closing.
-pub stock_closes : (g : Shape) (s t : Stock) (log : Deeds) (c n : ℕ) (d : Desc) → IsStock g s log → (k : IsLive log c n) → d ≡ k.desc
-    → ((ms : List Mark) → IsTracking s.ages ms → IsTracking t.ages (ms ++ cond (pair_live (log ++ act c (closes n) ∷ []) d.pair) [] (map releases d.modules))) → IsRecent t.ages
-    → ((m : ℕ) → get_or t.ages.held.items m 0 ≤ get_or s.ages.held.items m 0) → t.ages.clock ≤ s.ages.clock + 2 ^ 64 → length t.ages.held.items ≡ length s.ages.held.items
-    → t.live.items ≡ filter (λ (x : Live). not (eqb x.number n)) s.live.items → t.live.slots ≡ s.live.slots + 1
-    → t.placed.items ≡ filter (λ (x : Place). is_kept t.ages x.«module») s.placed.items → t.pages ≡ s.pages → vec_capacity s.placed ≤ vec_capacity t.placed
-    → IsStock g t (log ++ act c (closes n) ∷ [])
-stock_closes g s t log c n d h k is tracks recent less clock len live_is slots kept pages room = let e : Act = act c (closes n) in
-    let mk : marks (log ++ e ∷ []) ≡ marks log ++ cond (pair_live (log ++ e ∷ []) d.pair) [] (map releases d.modules) =
-    subst (λ (y : Desc). marks (log ++ e ∷ []) ≡ marks log ++ cond (pair_live (log ++ e ∷ []) y.pair) [] (map releases y.modules)) (sym is)
-    (subst (λ (z : ℕ). marks (log ++ act c (closes z) ∷ []) ≡ marks log ++ cond (pair_live (log ++ act c (closes z) ∷ []) k.desc.pair) [] (map releases k.desc.modules)) k.number_is (marks_closes log h.sound.balanced c k.desc k.there)) in
-    stock_after g s t log e s.placed.items h
-    (subst (IsTracking t.ages) (sym mk) (tracks (marks log) h.tracking)) recent
-    (record { clock = (let q = h.within.clock in let z = length-snoc log e in omega arith); held = λ m. let q = h.within.held m in let z = length-snoc log e in let y = less m in omega arith })
-    (live_is ∙ (ap (filter (λ (x : Live). not (eqb x.number n))) h.live_is ∙ sym (live_is_closes log c n))) slots
-    h.placed_is kept h.tidy (sound_closes g log c n h.sound k) len pages room
-
--- There is room for an opening's places.
-pub open_room : (g : Shape) (s : Stock) (log : Deeds) (v : Success) (ps : List (List ℕ)) → IsStock g s log → CanOpen g s.pages log v ps → length s.placed.items + length v.loads ≤ vec_capacity s.placed
-open_room g s log v ps h can =
-    let P = places s.pages log in let ls = map loaded_of v.loads in
-    let t = length-tidy (length s.ages.held.items) s.pages (place_loads s.pages ls P) (tidy_open g s log v ps h can) in
-    let a = length-map (place_loads s.pages ls P) (λ (x : Placed). x.«module») in
-    let b = length-place_loads s.pages ls P in
-    let d = length-map v.loads loaded_of in
-    let k : length s.placed.items ≡ length P = sym (length-map s.placed.items seat) ∙ (ap length h.placed_is ∙ length-map P seat_of) in
-    let r = h.room in omega arith
+-- The modules that are kept, and behind them those that are loaded.
+placed_with : (g : Shape) (s : Stock) (log : Deeds) (v : Success) → IsStock g s log
+    → placed_modules (place_loads s.pages (map loaded_of v.loads) (places s.pages log)) ≡ filter (is_kept s.ages) s.homes.order.items ++ map (λ (l : Load). l.«module») v.loads
+placed_with g s log v h = modules-loads s.pages (map loaded_of v.loads) (places s.pages log) ∙ (λ i. sym (placed_are g s log h) i ++ map_loaded v.loads i)
 
 -- An opening has as many places as loads.
 pub open_places : (g : Shape) (pages : ℕ) (log : Deeds) (v : Success) (ps : List (List ℕ)) → CanOpen g pages log v ps → length ps ≡ length v.loads
 open_places g pages log v ps can = ap length can.places ∙ (length-places_for pages (map loaded_of v.loads) (places pages log) ∙ length-map v.loads loaded_of)
+
+-- An opening that loads.
+seats_opened : (g : Shape) (s : Stock) (new : Homes) (log : Deeds) (v : Success) (ps : List (List ℕ)) → IsStock g s log → CanOpen g s.pages log v ps → IsSettled s.ages s.homes new (map (λ (l : Load). l.«module») v.loads) ps
+    → map (seat_in (lists new.rows.items)) new.order.items ≡ map seat_of (place_loads s.pages (map loaded_of v.loads) (places s.pages log))
+seats_opened g s new log v ps h can st =
+    let ls = map loaded_of v.loads in let ms = map (λ (l : Load). l.«module») v.loads in
+    let rows = lists s.homes.rows.items in let p : ℕ → Bool = is_kept s.ages in let order = s.homes.order.items in
+    let tidy = tidy_open g s log v ps h can in
+    let all : length rows ≡ length s.ages.held.items = length-lists s.homes.rows.items ∙ h.homes.count in
+    (λ i. map (seat_in (st.rows_are i)) (st.order_is i))
+    ∙ (seats_settled p rows order ms ps (subst Once (placed_with g s log v h) tidy.once)
+    (subst (λ (n : ℕ). AllByRecursion (λ m. m < n) (filter p order ++ ms)) (sym all) (subst (AllByRecursion (λ m. m < length s.ages.held.items)) (placed_with g s log v h) tidy.known))
+    (open_places g s.pages log v ps can ∙ sym (length-map v.loads (λ (l : Load). l.«module»)))
+    ∙ ((λ i. h.placed_is i ++ seated (sym (map_loaded v.loads) i) (can.places i)) ∙ sym (seats-loads s.pages ls (places s.pages log))))
+
+-- An opening that was answered by a chain.
+pub stock_opens : (g : Shape) (s t : Stock) (log : Deeds) (c n : ℕ) (v : Success) (ps : List (List ℕ)) → IsStock g s log → CanOpen g s.pages log v ps
+    → ((ms : List Mark) → IsTracking s.ages ms → IsTracking t.ages (ms ++ cond (pair_live log v.pair) [] (map uses v.modules)))
+    → ((m : ℕ) → get_or t.ages.held.items m 0 ≤ get_or s.ages.held.items m 0 + 2 ^ 64) → t.ages.clock ≡ s.ages.clock → length t.ages.held.items ≡ length s.ages.held.items
+    → n ≡ length log → t.live.items ≡ s.live.items ++ record { number = n; caller = c; generation = v.pair.generation; from = v.pair.from; to = v.pair.to } ∷ [] → t.live.slots ≡ s.live.slots + 1
+    → Settles s.ages s.homes t.homes (map (λ (l : Load). l.«module») v.loads) ps → t.pages ≡ s.pages
+    → IsStock g t (log ++ act c (opens v.pair v.modules (map loaded_of v.loads)) ∷ [])
+stock_opens g s t log c n v ps h can tracks more clock len number live_is slots settles pages = go v.loads refl
+  where
+    at : List Load → Act
+    at ls = act c (opens v.pair v.modules (map loaded_of ls))
+
+    tracking : (ls : List Load) → IsTracking t.ages (marks (log ++ at ls ∷ []))
+    tracking ls = subst (IsTracking t.ages) (sym (marks_opens log c v.pair v.modules (map loaded_of ls))) (tracks (marks log) h.tracking)
+
+    within : (ls : List Load) → IsWithin t.ages (length (log ++ at ls ∷ []) * 2 ^ 64)
+    within ls = record { clock = (let k = h.within.clock in let z = length-snoc log (at ls) in omega arith); held = λ m. let k = h.within.held m in let z = length-snoc log (at ls) in let y = more m in omega arith }
+
+    lives : (ls : List Load) → t.live.items ≡ map shown (live (log ++ at ls ∷ []))
+    lives ls = live_is ∙ (ap (λ (z : List Live). z ++ record { number = n; caller = c; generation = v.pair.generation; from = v.pair.from; to = v.pair.to } ∷ []) h.live_is ∙ sym (live_is_opens log h.sound.balanced c v.pair n v.modules (map loaded_of ls) number))
+
+    sound : (ls : List Load) → IsSound g (log ++ at ls ∷ [])
+    sound ls = sound_opens g log c v.pair v.modules (map loaded_of ls) (record { ordinals = v.ordinals; cost = v.cost }) h.sound can.leads can.steps
+
+    go : (ls : List Load) → v.loads ≡ ls → IsStock g t (log ++ at v.loads ∷ [])
+    go [] e =
+        let same : t.homes ≡ s.homes = subst (λ (z : List Load). Settles s.ages s.homes t.homes (map (λ (l : Load). l.«module») z) ps) e settles in
+        let none : absent_among log v.modules ≡ [] = sym can.absent ∙ ap (λ (z : List Load). loaded_modules (map loaded_of z)) e in
+        subst (λ (z : List Load). IsStock g t (log ++ at z ∷ [])) (sym e)
+        (stock_stays g s t log (at []) h (tracking []) (within []) (lives []) slots same refl (before_opening log c v.pair v.modules [] none) (sound []) len pages)
+    go (l ∷ ls) e =
+        let st : IsSettled s.ages s.homes t.homes (map (λ (l : Load). l.«module») v.loads) ps =
+        subst (λ (z : List Load). IsSettled s.ages s.homes t.homes (map (λ (l : Load). l.«module») z) ps) (sym e) (subst (λ (z : List Load). Settles s.ages s.homes t.homes (map (λ (l : Load). l.«module») z) ps) e settles) in
+        stock_after g s t log (at v.loads) t.homes.order.items h (tracking v.loads) (within v.loads) (lives v.loads) slots
+        (seats_opened g s t.homes log v ps h can st) refl
+        (homes_settled (length s.ages.held.items) s.ages s.homes t.homes (map (λ (l : Load). l.«module») v.loads) ps h.homes st)
+        (tidy_open g s log v ps h can) (sound v.loads) len pages st.room
+
+-- A refused opening leaves all but its slot.
+pub stock_rested : (g : Shape) (s t : Stock) (log : Deeds) (c : ℕ) → IsStock g s log → t.ages ≡ s.ages → t.live.items ≡ s.live.items → t.live.slots ≡ s.live.slots + 1 → t.homes ≡ s.homes → t.pages ≡ s.pages
+    → IsStock g t (log ++ act c rests ∷ [])
+stock_rested g s t log c h ages live_is slots homes pages = let e : Act = act c rests in
+    stock_stays g s t log e h
+    (subst (λ z. IsTracking z (marks (log ++ e ∷ []))) (sym ages) (subst (IsTracking s.ages) (sym (marks_rests log c)) h.tracking))
+    (subst (λ z. IsWithin z (length (log ++ e ∷ []) * 2 ^ 64)) (sym ages) (record { clock = (let k = h.within.clock in let z = length-snoc log e in omega arith); held = λ m. let k = h.within.held m in let z = length-snoc log e in omega arith }))
+    (live_is ∙ (h.live_is ∙ ap (map shown) (sym (live_rests log h.sound.balanced c)))) slots
+    homes refl (λ m z. sym (ap (λ (y : List Mark). resident y m) (marks_rests log c)) ∙ z) (sound_rests g log c h.sound) (ap (λ z. length z.held.items) ages) pages
+
+-- A closing.
+pub stock_closes : (g : Shape) (s t : Stock) (log : Deeds) (c n : ℕ) (d : Desc) → IsStock g s log → (k : IsLive log c n) → d ≡ k.desc
+    → ((ms : List Mark) → IsTracking s.ages ms → IsTracking t.ages (ms ++ cond (pair_live (log ++ act c (closes n) ∷ []) d.pair) [] (map releases d.modules)))
+    → ((m : ℕ) → get_or t.ages.held.items m 0 ≤ get_or s.ages.held.items m 0) → t.ages.clock ≤ s.ages.clock + 2 ^ 64 → length t.ages.held.items ≡ length s.ages.held.items
+    → t.live.items ≡ filter (λ (x : Live). not (eqb x.number n)) s.live.items → t.live.slots ≡ s.live.slots + 1
+    → t.homes ≡ s.homes → t.pages ≡ s.pages
+    → IsStock g t (log ++ act c (closes n) ∷ [])
+stock_closes g s t log c n d h k is tracks less clock len live_is slots homes pages = let e : Act = act c (closes n) in
+    let mk : marks (log ++ e ∷ []) ≡ marks log ++ cond (pair_live (log ++ e ∷ []) d.pair) [] (map releases d.modules) =
+    subst (λ (y : Desc). marks (log ++ e ∷ []) ≡ marks log ++ cond (pair_live (log ++ e ∷ []) y.pair) [] (map releases y.modules)) (sym is)
+    (subst (λ (z : ℕ). marks (log ++ act c (closes z) ∷ []) ≡ marks log ++ cond (pair_live (log ++ act c (closes z) ∷ []) k.desc.pair) [] (map releases k.desc.modules)) k.number_is (marks_closes log h.sound.balanced c k.desc k.there)) in
+    let before : (m : ℕ) → resident (marks (log ++ e ∷ [])) m ≡ true → resident (marks log) m ≡ true =
+    subst (λ (z : ℕ). (m : ℕ) → resident (marks (log ++ act c (closes z) ∷ [])) m ≡ true → resident (marks log) m ≡ true) k.number_is
+    (before_closing log h.sound.balanced c k.desc k.there (ap (λ (z : ℕ). closed z log) k.number_is ∙ k.unclosed)) in
+    stock_stays g s t log e h
+    (subst (IsTracking t.ages) (sym mk) (tracks (marks log) h.tracking))
+    (record { clock = (let q = h.within.clock in let z = length-snoc log e in omega arith); held = λ m. let q = h.within.held m in let z = length-snoc log e in let y = less m in omega arith })
+    (live_is ∙ (ap (filter (λ (x : Live). not (eqb x.number n))) h.live_is ∙ sym (live_is_closes log c n))) slots
+    homes refl before (sound_closes g log c n h.sound k) len pages
+
+-- There is room for an opening's places.
+pub open_room : (g : Shape) (s : Stock) (log : Deeds) (v : Success) (ps : List (List ℕ)) → IsStock g s log → CanOpen g s.pages log v ps
+    → length (filter (is_kept s.ages) s.homes.order.items) + length v.loads ≤ vec_capacity s.homes.order
+open_room g s log v ps h can =
+    let ls = map loaded_of v.loads in
+    let t = length-tidy (length s.ages.held.items) s.pages (place_loads s.pages ls (places s.pages log)) (tidy_open g s log v ps h can) in
+    let a = ap length (placed_with g s log v h) in
+    let b = length-append (filter (is_kept s.ages) s.homes.order.items) (map (λ (l : Load). l.«module») v.loads) in
+    let d = length-map v.loads (λ (l : Load). l.«module») in
+    let r = h.room in omega arith
+
+all_of_map : (n : ℕ) (ls : List Load) → AllByRecursion (λ m. m < n) (map (λ (l : Load). l.«module») ls) → AllByRecursion (λ (l : Load). l.«module» < n) ls
+all_of_map n [] h = tt
+all_of_map n (l ∷ ls) h = (h.0, all_of_map n ls h.1)
+
+-- Each module that an opening loads has a row.
+pub open_known : (g : Shape) (s : Stock) (log : Deeds) (v : Success) (ps : List (List ℕ)) → IsStock g s log → CanOpen g s.pages log v ps → AllByRecursion (λ (l : Load). l.«module» < length s.homes.rows.items) v.loads
+open_known g s log v ps h can = all_of_map (length s.homes.rows.items) v.loads
+    (subst (λ (n : ℕ). AllByRecursion (λ m. m < n) (map (λ (l : Load). l.«module») v.loads)) (sym h.homes.count)
+    (all_behind (λ m. m < length s.ages.held.items) (filter (is_kept s.ages) s.homes.order.items) (map (λ (l : Load). l.«module») v.loads)
+    (subst (AllByRecursion (λ m. m < length s.ages.held.items)) (placed_with g s log v h) (tidy_open g s log v ps h can).known)))

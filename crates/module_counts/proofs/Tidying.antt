@@ -7,21 +7,20 @@ use Rattle.std.proofs.lemmas.List.{map-append, length-take}
 use Rattle.std.proofs.lemmas.List.FromFn.{length-range_with_len}
 use Rattle.std.proofs.lemmas.Map.Steps.{length-le_from_distinct_below}
 use Rattle.module_counts.specs.declared.ages.Ages.{Ages}
-use Rattle.module_counts.specs.declared.store.Place.{Place}
 use Rattle.runtime_histories.specs.Deeds.{Loaded, Mark}
 use Rattle.runtime_histories.specs.Residence.{resident}
 use Rattle.module_counts.specs.Tracking.{IsTracking, is_kept}
 use Rattle.runtime_histories.specs.Places.{Placed, among, pages_for, all_pages, all_needs, free_of, lowest, placed_at, place_loads}
 use Rattle.runtime_histories.specs.Legal.{loaded_modules, load_pages}
-use Rattle.module_counts.specs.Stocks.{Seat, seat, seat_of, seat_pages, places_for, seated, Once, placed_modules, IsTidy}
+use Rattle.module_counts.specs.Stocks.{Seat, seat_in, seat_of, seat_pages, kept_among, places_for, seated, Once, placed_modules, IsTidy}
 use Rattle.runtime_histories.proofs.Basics.{filter-same}
 use Rattle.module_counts.proofs.Tracking.{is_kept-tracks}
 
-or_false_both : (a b : Bool) → (a || b) ≡ false → (a ≡ false) × (b ≡ false)
+pub or_false_both : (a b : Bool) → (a || b) ≡ false → (a ≡ false) × (b ≡ false)
 or_false_both true b e = absurd (true≢false e)
 or_false_both false b e = (refl, e)
 
-among-append : (m : ℕ) (xs ys : List ℕ) → among m (xs ++ ys) ≡ (among m xs || among m ys)
+pub among-append : (m : ℕ) (xs ys : List ℕ) → among m (xs ++ ys) ≡ (among m xs || among m ys)
 among-append m [] ys = refl
 among-append m (x ∷ xs) ys = go (eqb x m) (among-append m xs ys)
   where
@@ -252,31 +251,39 @@ below_any n (x ∷ xs) h q e = dite (ℕ_discrete q x) (λ (z : q ≡ x). subst 
 pub length-tidy : (modules pages : ℕ) (xs : List Placed) → IsTidy modules pages xs → length (placed_modules xs) ≤ modules
 length-tidy modules pages xs h = length-le_from_distinct_below (placed_modules xs) modules (once_distinct (placed_modules xs) h.once) (below_any modules (placed_modules xs) h.known)
 
--- A test that all pass leaves out none.
-pub kept_all : (p : Place → Bool) (xs : List Place) → AllByRecursion (λ (x : Place). p x ≡ true) xs → filter p xs ≡ xs
-kept_all p [] h = refl
-kept_all p (x ∷ xs) h = (λ i. cond (h.0 i) (x ∷ kept_all p xs h.1 i) (kept_all p xs h.1 i))
-
 -- What the counters keep is what is resident.
-pub kept_seats : (a : Ages) (ms : List Mark) (ps : List Place) (xs : List Placed) → IsTracking a ms → map seat ps ≡ map seat_of xs → AllByRecursion (λ m. m < length a.held.items) (placed_modules xs)
-    → map seat (filter (λ (x : Place). is_kept a x.«module») ps) ≡ map seat_of (filter (λ (x : Placed). resident ms x.«module») xs)
-kept_seats a ms [] [] t e h = refl
-kept_seats a ms [] (x ∷ xs) t e h = absurd (let l = ap length e in omega arith)
-kept_seats a ms (p ∷ ps) [] t e h = absurd (let l = ap length e in omega arith)
-kept_seats a ms (p ∷ ps) (x ∷ xs) t e h =
-    let head : seat p ≡ seat_of x = cc in
-    let tail : map seat ps ≡ map seat_of xs = cc in
-    let m : p.«module» ≡ x.«module» = ap (λ (z : Seat). z.«module») head in
-    let b : is_kept a p.«module» ≡ resident ms x.«module» = ap (is_kept a) m ∙ is_kept-tracks a ms x.«module» t h.0 in
-    go (is_kept a p.«module») (resident ms x.«module») b head (kept_seats a ms ps xs t tail h.1)
+pub kept-resident : (a : Ages) (ms : List Mark) (rows : List (List ℕ)) (ks : List ℕ) (xs : List Placed) → IsTracking a ms → map (seat_in rows) ks ≡ map seat_of xs → AllByRecursion (λ m. m < length a.held.items) (placed_modules xs)
+    → kept_among a rows ks ≡ map seat_of (filter (λ (x : Placed). resident ms x.«module») xs)
+kept-resident a ms rows [] [] t e h = refl
+kept-resident a ms rows [] (x ∷ xs) t e h = absurd (let l = ap length e in omega arith)
+kept-resident a ms rows (k ∷ ks) [] t e h = absurd (let l = ap length e in omega arith)
+kept-resident a ms rows (k ∷ ks) (x ∷ xs) t e h =
+    let head : seat_in rows k ≡ seat_of x = cc in
+    let tail : map (seat_in rows) ks ≡ map seat_of xs = cc in
+    let m : k ≡ x.«module» = ap (λ (z : Seat). z.«module») head in
+    let b : is_kept a k ≡ resident ms x.«module» = ap (is_kept a) m ∙ is_kept-tracks a ms x.«module» t h.0 in
+    go (is_kept a k) (resident ms x.«module») b head (kept-resident a ms rows ks xs t tail h.1)
   where
-    go : (b c : Bool) → b ≡ c → seat p ≡ seat_of x → map seat (filter (λ (x : Place). is_kept a x.«module») ps) ≡ map seat_of (filter (λ (x : Placed). resident ms x.«module») xs)
-        → map seat (cond b (p ∷ filter (λ (x : Place). is_kept a x.«module») ps) (filter (λ (x : Place). is_kept a x.«module») ps)) ≡ map seat_of (cond c (x ∷ filter (λ (x : Placed). resident ms x.«module») xs) (filter (λ (x : Placed). resident ms x.«module») xs))
+    go : (b c : Bool) → b ≡ c → seat_in rows k ≡ seat_of x → map (seat_in rows) (filter (is_kept a) ks) ≡ map seat_of (filter (λ (x : Placed). resident ms x.«module») xs)
+        → map (seat_in rows) (cond b (k ∷ filter (is_kept a) ks) (filter (is_kept a) ks)) ≡ map seat_of (cond c (x ∷ filter (λ (x : Placed). resident ms x.«module») xs) (filter (λ (x : Placed). resident ms x.«module») xs))
     go true true e f r = (λ i. f i ∷ r i)
     go true false e f r = absurd (true≢false e)
     go false true e f r = absurd (true≢false (sym e))
     go false false e f r = r
 
-pub length-place_loads : (pages : ℕ) (ls : List Loaded) (held : List Placed) → length (place_loads pages ls held) ≡ length held + length ls
-length-place_loads pages [] held = omega arith
-length-place_loads pages (l ∷ ls) held = let h = length-place_loads pages ls (held ++ placed_at pages held l ∷ []) in let a = length-append held (placed_at pages held l ∷ []) in omega arith
+-- The modules of seats.
+pub seats-modules : (rows : List (List ℕ)) (ks : List ℕ) (xs : List Placed) → map (seat_in rows) ks ≡ map seat_of xs → ks ≡ placed_modules xs
+seats-modules rows [] [] e = refl
+seats-modules rows [] (x ∷ xs) e = absurd (let l = ap length e in omega arith)
+seats-modules rows (k ∷ ks) [] e = absurd (let l = ap length e in omega arith)
+seats-modules rows (k ∷ ks) (x ∷ xs) e =
+    let head : seat_in rows k ≡ seat_of x = cc in
+    let tail : map (seat_in rows) ks ≡ map seat_of xs = cc in
+    (λ i. (head i).«module» ∷ seats-modules rows ks xs tail i)
+
+-- The modules of places with loads.
+pub modules-loads : (pages : ℕ) (ls : List Loaded) (held : List Placed) → placed_modules (place_loads pages ls held) ≡ placed_modules held ++ loaded_modules ls
+modules-loads pages [] held = sym (append-nil (placed_modules held))
+modules-loads pages (l ∷ ls) held = let y = placed_at pages held l in
+    modules-loads pages ls (held ++ y ∷ []) ∙ (ap (λ (z : List ℕ). z ++ loaded_modules ls) (map-append (λ (x : Placed). x.«module») held (y ∷ []))
+    ∙ append_assoc (placed_modules held) (y.«module» ∷ []) (loaded_modules ls))

@@ -16,7 +16,7 @@ pub count-snoc : (p : Mark → Bool) (xs : List Mark) (y : Mark) → count p (xs
 count-snoc p [] y = omega arith
 count-snoc p (x ∷ xs) y = let h = count-snoc p xs y in omega arith
 
-abbrev pushed : Mark → Option (List Mark) → Option (List Mark)
+abbrev pub pushed : Mark → Option (List Mark) → Option (List Mark)
 pushed y None = None
 pushed y (Some t) = Some (t ++ y ∷ [])
 

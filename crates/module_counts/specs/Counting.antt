@@ -8,11 +8,11 @@ use Rattle.std.specs.List.{AllByRecursion}
 use Rattle.std.specs.Prelude.{true}
 use Rattle.runtime_histories.specs.Residence.{resident}
 use Rattle.runtime_histories.specs.Deeds.{Deeds, Desc, live, marks}
-use Rattle.module_counts.specs.Tracking.{IsTracking, IsRecent, IsWithin}
+use Rattle.module_counts.specs.Tracking.{IsTracking, IsWithin}
 use Rattle.runtime_histories.specs.Places.{places, free}
 use Rattle.runtime_histories.specs.declared.refusals.Refusal.{Refusal}
 use Rattle.runtime_histories.specs.declared.refusals.Refusal.TheVariants.{JournalFull, StoreFull, Memory}
-use Rattle.module_counts.specs.Stocks.{seat, seat_of, placed_modules, IsTidy}
+use Rattle.module_counts.specs.Stocks.{seat_of, kept_seats, IsHomes, placed_modules, IsTidy}
 use Rattle.runtime_histories.specs.Settings.{Setting, module_at}
 use Rattle.runtime_histories.specs.Sound.{IsSound}
 use Rattle.runtime_histories.specs.Entries.{deeds}
@@ -36,16 +36,16 @@ IsKnown graph modules = (o m : ℕ) → module_at graph.edges o ≡ Some m → m
 -- The stock stands for deeds.
 pub record IsStock (graph : Shape) (s : Stock) (log : Deeds) : Type 0 where
   pub tracking : IsTracking s.ages (marks log)
-  pub recent : IsRecent s.ages
   pub within : IsWithin s.ages (length log * 2 ^ 64)
   pub live_is : s.live.items ≡ map shown (live log)
   pub slots_is : s.live.slots ≡ length log
-  pub placed_is : map seat s.placed.items ≡ map seat_of (places s.pages log)
+  pub placed_is : kept_seats s.ages s.homes ≡ map seat_of (places s.pages log)
+  pub homes : IsHomes (length s.ages.held.items) s.homes
   pub sound : IsSound graph log
   pub tidy : IsTidy (length s.ages.held.items) s.pages (places s.pages log)
   pub known : IsKnown graph (length s.ages.held.items)
   pub fresh : AllByRecursion (λ m. resident (marks log) m ≡ true) (placed_modules (places s.pages log))
-  pub room : length s.ages.held.items ≤ vec_capacity s.placed
+  pub room : length s.ages.held.items ≤ vec_capacity s.homes.order
 
 -- The bookkeeping as callers see it: the graph, the pages of the store, the journal and its limit, and for how
 -- many entries more there is room.

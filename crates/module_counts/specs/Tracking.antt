@@ -1,5 +1,5 @@
 -- Counters that tell what is resident. No public clause cites it.
-use Rattle.std.specs.Prelude.{◌-◌, ◌&&◌, ◌||◌, Bool, true, false, nat_lt, ◌≡◌, ℕ, ◌+◌, ◌<◌, ◌≤◌, List, [], ◌∷◌, length, Option, Some, None}
+use Rattle.std.specs.Prelude.{◌-◌, ◌&&◌, ◌||◌, Bool, nat_lt, ◌≡◌, ℕ, ◌+◌, ◌<◌, ◌≤◌, List, [], ◌∷◌, length, Option, Some, None}
 use Rattle.std.proofs.Common.{get_or}
 use Rattle.runtime_histories.specs.Deeds.{Mark}
 use Rattle.runtime_histories.specs.Residence.{is_use, is_release, is_any_release, count, after_last}
@@ -32,21 +32,6 @@ told a m = nat_lt 0 (get_or a.held.items m 0)
 
 abbrev pub is_kept : Ages → ℕ → Bool
 is_kept a m = nat_lt m (length a.held.items) && told a m
-
--- What is kept before is kept after.
-abbrev pub KeepsAll : Ages → Ages → Type 0
-KeepsAll a b = (m : ℕ) → is_kept a m ≡ true → is_kept b m ≡ true
-
--- A module that was released last at one of the newest three releases is the one that is noted there.
-pub record IsRecent (a : Ages) : Type 0 where
-  pub past : (m : ℕ) → get_or a.stamps.items m 0 ≤ a.clock + 1
-  pub newest : (m : ℕ) → get_or a.held.items m 0 ≡ 0 → 0 < get_or a.stamps.items m 0 → get_or a.stamps.items m 0 ≡ a.clock + 1 → m ≡ a.newest
-  pub second : (m : ℕ) → get_or a.held.items m 0 ≡ 0 → 0 < get_or a.stamps.items m 0 → get_or a.stamps.items m 0 ≡ a.clock → m ≡ a.second
-  pub third : (m : ℕ) → get_or a.held.items m 0 ≡ 0 → 0 < get_or a.stamps.items m 0 → get_or a.stamps.items m 0 + 1 ≡ a.clock → m ≡ a.third
-
--- The newest releases stay noted, and nothing is given up unless it is said.
-abbrev pub Goes : Bool → Ages → Ages → Type 0
-Goes gone a b = IsRecent a → IsRecent b × (gone ≡ false → KeepsAll a b)
 
 -- A module, if there is one.
 abbrev pub listed : Option ℕ → List ℕ

@@ -5,22 +5,18 @@ ghost use Rattle.runtime_histories.specs.Deeds.{Mark, uses, releases};
 ghost use Rattle.runtime_histories.specs.Residence.{resident};
 ghost use Rattle.runtime_histories.specs.Settings.{module_at, modules_of};
 ghost use Rattle.runtime_histories.specs.Fair.{times};
-ghost use Rattle.module_counts.specs.Tracking.{IsTracking, IsRecent, Goes, is_kept, listed};
+ghost use Rattle.module_counts.specs.Tracking.{IsTracking, is_kept, listed};
 
 use module_graph::Graph;
 use std::alloc::{AllocError, Global};
 
-/// How much more often each module was used than released, when it was used or released last, how
-/// many releases there were, and the modules of the newest three. A stamp is one more than the clock
-/// was then; 0 is none.
+/// How much more often each module was used than released, when it was used or released last, and how
+/// many releases there were. A stamp is one more than the clock was then; 0 is none.
 #[derive(Drop)]
 pub struct Ages {
     pub held: Vec<u128>,
     pub stamps: Vec<u128>,
     pub clock: u128,
-    pub newest: u32,
-    pub second: u32,
-    pub third: u32,
 }
 
 /// So many counters at 0.
@@ -51,7 +47,6 @@ impl Ages {
         ensures count { IfOk result (λ a. length a.held.items ≡ modules) }
         ensures clock { IfOk result (λ a. a.clock ≡ 0) }
         ensures held { IfOk result (λ a. (m : ℕ) → get_or a.held.items m 0 ≡ 0) }
-        ensures recent { IfOk result IsRecent }
     {
         let held = zeros(alloc, modules as usize)?;
         let stamps = zeros(alloc, modules as usize)?;
@@ -59,9 +54,6 @@ impl Ages {
             held,
             stamps,
             clock: 0,
-            newest: 0,
-            second: 0,
-            third: 0,
         })
     }
 
@@ -76,16 +68,14 @@ impl Ages {
         ensures stays { length self.new.held.items ≡ length self.old.held.items }
         ensures more { (m : ℕ) → get_or self.new.held.items m 0 ≤ get_or self.old.held.items m 0 + 1 }
         ensures clock { self.new.clock ≡ self.old.clock }
-        ensures goes { Goes false self.old self.new }
     {
         let place = which as usize;
         self.held[place] += 1;
         self.stamps[place] = self.clock + 1;
     }
 
-    /// A release of a module. At each release only that of the third release before may be given up, and
-    /// the answer is whether it isn't kept.
-    fn stop(&mut self, which: u32) -> bool
+    /// A release of a module.
+    fn stop(&mut self, which: u32)
         requires known { which < length self.old.held.items }
         requires same { length self.old.stamps.items ≡ length self.old.held.items }
         requires held { 0 < get_or self.old.held.items which 0 }
@@ -96,17 +86,11 @@ impl Ages {
         ensures clock { self.new.clock ≡ self.old.clock + 1 }
         ensures held { self.new.held.items
             ≡ slice_set self.old.held.items which (get_or self.old.held.items which 0 - 1) }
-        ensures goes { Goes result self.old self.new }
     {
         let place = which as usize;
         self.held[place] -= 1;
         self.stamps[place] = self.clock + 2;
         self.clock += 1;
-        let third = self.third;
-        self.third = self.second;
-        self.second = self.newest;
-        self.newest = which;
-        !self.keeps(third)
     }
 
     /// Whether a module is resident, by the counters.
@@ -136,7 +120,6 @@ impl Ages {
         ensures stays { length self.new.held.items ≡ length self.old.held.items }
         ensures more { (m : ℕ) → get_or self.new.held.items m 0 ≤ get_or self.old.held.items m 0 + 1 }
         ensures clock { self.new.clock ≡ self.old.clock }
-        ensures goes { Goes false self.old self.new }
     {
         match module_of(graph, ordinal) {
             Some(module) => self.start(module),
@@ -144,8 +127,8 @@ impl Ages {
         }
     }
 
-    /// A release by the edge of an ordinal, if that has a module. Whether a module may be given up.
-    fn stop_one(&mut self, graph: &Graph, ordinal: u32) -> bool
+    /// A release by the edge of an ordinal, if that has a module.
+    fn stop_one(&mut self, graph: &Graph, ordinal: u32)
         requires known { (m : ℕ) → module_at graph.now.edges ordinal ≡ Some m → m < length self.old.held.items }
         requires same { length self.old.stamps.items ≡ length self.old.held.items }
         requires held { (m : ℕ) → module_at graph.now.edges ordinal ≡ Some m → 0 < get_or self.old.held.items m 0 }
@@ -157,11 +140,10 @@ impl Ages {
         ensures clock { self.new.clock ≤ self.old.clock + 1 }
         ensures less { (m : ℕ) → get_or self.old.held.items m 0
             ≡ get_or self.new.held.items m 0 + times m (listed (module_at graph.now.edges ordinal)) }
-        ensures goes { Goes result self.old self.new }
     {
         match module_of(graph, ordinal) {
             Some(module) => self.stop(module),
-            None => false,
+            None => {}
         }
     }
 
@@ -177,15 +159,14 @@ impl Ages {
         ensures stays { length self.new.held.items ≡ length self.old.held.items }
         ensures more { (m : ℕ) → get_or self.new.held.items m 0 ≤ get_or self.old.held.items m 0 + length ordinals.now }
         ensures clock { self.new.clock ≡ self.old.clock }
-        ensures goes { Goes false self.old self.new }
     {
         for ordinal in ordinals {
             self.start_one(graph, *ordinal);
         }
     }
 
-    /// A release by each edge of a chain. Whether a module may be given up.
-    pub fn stop_all(&mut self, graph: &Graph, ordinals: &[u32]) -> bool
+    /// A release by each edge of a chain.
+    pub fn stop_all(&mut self, graph: &Graph, ordinals: &[u32])
         requires known { (o m : ℕ) → module_at graph.now.edges o ≡ Some m → m < length self.old.held.items }
         requires same { length self.old.stamps.items ≡ length self.old.held.items }
         requires enough { (m : ℕ) → times m (modules_of graph.now.edges ordinals.now) ≤ get_or self.old.held.items m 0 }
@@ -196,12 +177,9 @@ impl Ages {
         ensures stays { length self.new.held.items ≡ length self.old.held.items }
         ensures less { (m : ℕ) → get_or self.new.held.items m 0 ≤ get_or self.old.held.items m 0 }
         ensures clock { self.new.clock ≤ self.old.clock + length ordinals.now }
-        ensures goes { Goes result self.old self.new }
     {
-        let mut gone = false;
         for ordinal in ordinals {
-            gone |= self.stop_one(graph, *ordinal);
+            self.stop_one(graph, *ordinal);
         }
-        gone
     }
 }

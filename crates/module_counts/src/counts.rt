@@ -6,9 +6,10 @@ ghost use Rattle.runtime_histories.specs.Settings.{modules_of};
 ghost use Rattle.module_counts.specs.Tracking.{is_kept, listed};
 
 use crate::ages::{Ages, module_of};
+use crate::homes::Homes;
 use crate::lives::Lives;
 use crate::stock::Stock;
-use crate::store::{lowest_free, place_of, push_within, taken_pages};
+use crate::store::{lowest_free, push_within, taken_pages};
 use chain_search::Chain;
 use module_graph::Graph;
 use runtime_histories::{Entry, Event, Refusal};
@@ -71,14 +72,14 @@ impl Counts {
     {
         let modules = graph.modules();
         let ages = Ages::new(alloc, modules)?;
-        let placed = Vec::with_capacity(alloc, modules as usize)?;
+        let homes = Homes::new(alloc, modules)?;
         Ok(Counts {
             graph: Snapshot::of(graph),
             journal: Vec::new(alloc),
             stock: Stock {
                 live: Lives::new(alloc),
                 ages,
-                placed,
+                homes,
                 pages,
             },
             limit: journal_limit,
@@ -182,7 +183,7 @@ impl Counts {
     pub fn free_pages(&self) -> u32
         ensures { result ≡ free self.now.pages (deeds self.now.journal) }
     {
-        let taken = taken_pages(self.stock.placed.as_slice());
+        let taken = taken_pages(&self.stock.homes, &self.stock.ages);
         (self.stock.pages as u64 - taken) as u32
     }
 
@@ -200,7 +201,8 @@ impl Counts {
         if need > free as u64 {
             return Err(Refusal::StoreFull { need, free });
         }
-        match lowest_free(alloc, self.stock.placed.as_slice(), self.stock.pages, need) {
+        let stock = &self.stock;
+        match lowest_free(alloc, &stock.homes, &stock.ages, stock.pages, need) {
             Ok(pages) => Ok(pages),
             Err(_) => Err(Refusal::Memory),
         }
@@ -211,10 +213,7 @@ impl Counts {
         requires { resident (marks (deeds self.now.journal)) «module» ≡ true }
         ensures { result.now ≡ pages_of «module» (places self.now.pages (deeds self.now.journal)) }
     {
-        match place_of(self.stock.placed.as_slice(), module) {
-            Some(place) => place.pages.as_slice(),
-            None => &[],
-        }
+        self.stock.homes.row(module)
     }
 
     /// Whether the number is that of a live descriptor of the caller.

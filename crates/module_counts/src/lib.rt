@@ -4,6 +4,7 @@
 
 mod ages;
 mod counts;
+mod homes;
 mod lives;
 mod stock;
 mod store;

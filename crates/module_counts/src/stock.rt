@@ -5,7 +5,7 @@ ghost use Rattle.std.proofs.Common.{get_or};
 ghost use Rattle.runtime_histories.specs.Deeds.{Deeds, Pair, same_pair, Mark, uses, releases, act, closes, IsLive};
 ghost use Rattle.runtime_histories.specs.Fair.{times};
 ghost use Rattle.runtime_histories.specs.Settings.{module_at, modules_of};
-ghost use Rattle.module_counts.specs.Tracking.{IsTracking, Goes};
+ghost use Rattle.module_counts.specs.Tracking.{IsTracking};
 ghost use Rattle.runtime_histories.specs.Entries.{deeds, deed_of};
 ghost use Rattle.module_counts.specs.Stocks.{lists};
 ghost use Rattle.module_counts.specs.Admitting.{success_of, CanOpen, CanTake, deed_by, IsOpening, AreStepped};
@@ -15,8 +15,8 @@ ghost use Rattle.module_counts.specs.Lives.{pair_shown};
 ghost use Rattle.module_counts.specs.Successes.{IsSuccess};
 
 use crate::ages::Ages;
+use crate::homes::Homes;
 use crate::lives::Lives;
-use crate::store::{Place, give_up, place_all};
 use module_graph::Graph;
 use names_alias::Name;
 use runtime_histories::{Asked, Entry, Event, Load, Reply};
@@ -55,7 +55,7 @@ pub fn success_in(event: &Event) -> Option<Success<'_>>
 pub struct Stock {
     pub live: Lives,
     pub ages: Ages,
-    pub placed: Vec<Place>,
+    pub homes: Homes,
     pub pages: u32,
 }
 
@@ -71,7 +71,6 @@ fn start_pair(ages: &mut Ages, graph: &Graph, is_live: bool, chain: &[u32])
     ensures stays { length ages.new.held.items ≡ length ages.old.held.items }
     ensures more { (m : ℕ) → get_or ages.new.held.items m 0 ≤ get_or ages.old.held.items m 0 + 2 ^ 64 }
     ensures clock { ages.new.clock ≡ ages.old.clock }
-    ensures goes { Goes false ages.old ages.new }
 {
     if is_live {
         return;
@@ -80,8 +79,8 @@ fn start_pair(ages: &mut Ages, graph: &Graph, is_live: bool, chain: &[u32])
     ages.start_all(graph, chain);
 }
 
-/// The releases of a closing, which leaves its pair live or not. Whether a module may be given up.
-fn stop_pair(ages: &mut Ages, graph: &Graph, is_live: bool, chain: &[u32]) -> bool
+/// The releases of a closing, which leaves its pair live or not.
+fn stop_pair(ages: &mut Ages, graph: &Graph, is_live: bool, chain: &[u32])
     requires known { IsKnown graph.now (length ages.old.held.items) }
     requires same { length ages.old.stamps.items ≡ length ages.old.held.items }
     requires enough { is_live ≡ false → (m : ℕ)
@@ -93,13 +92,12 @@ fn stop_pair(ages: &mut Ages, graph: &Graph, is_live: bool, chain: &[u32]) -> bo
     ensures stays { length ages.new.held.items ≡ length ages.old.held.items }
     ensures less { (m : ℕ) → get_or ages.new.held.items m 0 ≤ get_or ages.old.held.items m 0 }
     ensures clock { ages.new.clock ≤ ages.old.clock + 2 ^ 64 }
-    ensures goes { Goes result ages.old ages.new }
 {
     if is_live {
-        return false;
+        return;
     }
     let _count = chain.len();
-    ages.stop_all(graph, chain)
+    ages.stop_all(graph, chain);
 }
 
 impl Stock {
@@ -126,18 +124,15 @@ impl Stock {
         ensures modules { length self.new.ages.held.items ≡ length self.old.ages.held.items }
     {
         let is_live = self.live.has_pair(found.from, found.to);
+        self.homes.settle(&self.ages, found.loads, places);
         start_pair(&mut self.ages, graph, is_live, found.chain);
-        let none = found.loads.is_empty();
-        place_all(&mut self.placed, found.loads, places);
         self.live.open(caller, found.from, found.to);
-        give_up(&mut self.placed, &self.ages, !none);
     }
 }
 
 impl Stock {
-    /// The releases of the closing of an opening, if it leaves its pair none. Whether a module may be
-    /// given up.
-    fn stop(&mut self, graph: &Graph, event: &Event) -> bool
+    /// The releases of the closing of an opening, if it leaves its pair none.
+    fn stop(&mut self, graph: &Graph, event: &Event)
         requires known { IsKnown graph.now (length self.old.ages.held.items) }
         requires same { length self.old.ages.stamps.items ≡ length self.old.ages.held.items }
         requires enough { (v : values.Success) → success_of event.now ≡ Some v
@@ -152,16 +147,15 @@ impl Stock {
         ensures stays { length self.new.ages.held.items ≡ length self.old.ages.held.items }
         ensures less { (m : ℕ) → get_or self.new.ages.held.items m 0 ≤ get_or self.old.ages.held.items m 0 }
         ensures clock { self.new.ages.clock ≤ self.old.ages.clock + 2 ^ 64 }
-        ensures rest { (self.new.live ≡ self.old.live) × (self.new.placed ≡ self.old.placed)
+        ensures rest { (self.new.live ≡ self.old.live) × (self.new.homes ≡ self.old.homes)
             × (self.new.pages ≡ self.old.pages) }
-        ensures goes { Goes result self.old.ages self.new.ages }
     {
         match success_in(event) {
             Some(found) => {
                 let is_live = self.live.has_pair(found.from, found.to);
-                stop_pair(&mut self.ages, graph, is_live, found.chain)
+                stop_pair(&mut self.ages, graph, is_live, found.chain);
             }
-            None => false,
+            None => {}
         }
     }
 
@@ -209,8 +203,7 @@ impl Stock {
         ensures modules { length self.new.ages.held.items ≡ length self.old.ages.held.items }
     {
         self.live.close(number);
-        let gone = self.stop(graph, &journal[number as usize].event);
-        give_up(&mut self.placed, &self.ages, gone);
+        self.stop(graph, &journal[number as usize].event);
         self.live.skip();
     }
 }

@@ -1,10 +1,10 @@
-use Rattle.std.proofs.Common.{◌≡◌, [], ℕ, List, Bool, false, length, take, map, replicate, get_or, Result, IfOk, sym, ap, ◌∙◌, subst, arith}
+use Rattle.std.proofs.Common.{◌≡◌, [], ℕ, List, Bool, false, length, take, replicate, get_or, Result, IfOk, sym, ap, ◌∙◌, subst, arith}
 use Rattle.std.proofs.lemmas.Grind.{common_steps}
 use Rattle.std.specs.declared.vec.Vec.{Vec}
 use Rattle.std.specs.declared.alloc.Global.{Global}
 use Rattle.std.specs.declared.alloc.AllocError.{AllocError}
 use Rattle.runtime_histories.specs.Places.{lowest}
-use Rattle.module_counts.specs.Stocks.{IsMap, seat, seat_pages, unset}
+use Rattle.module_counts.specs.Stocks.{IsMap, seat_pages, kept_seats, unset}
 use Rattle.module_counts.proofs.Storing.{unset-free}
 use Rattle.module_counts.proofs.store.lowest_free.Goals as goal
 
@@ -19,7 +19,7 @@ along r xs ys e h = subst (λ (z : List ℕ). IfOk r (λ v. v.items ≡ z)) e h
 
 pub returns : goal.returns
 returns c =
-    let all = seat_pages (map seat c.args.placed.now) in
+    let all = seat_pages (kept_seats c.args.ages.now c.args.homes.now) in
     let first : IsMap c.as_mut_slice.result.now [] = no_map c.as_mut_slice.result.now c.args.pages (c.as_mut_slice.ensures.value ∙ c.in_ok-bits.ensures) in
     let set : IsMap c.set_all.new.bits all = c.set_all.ensures.map [] first in
     let same : c.as_slice.result.now ≡ c.set_all.new.bits = grind (arith, common_steps) in

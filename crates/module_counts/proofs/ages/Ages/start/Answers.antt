@@ -1,10 +1,9 @@
-use Rattle.std.proofs.Common.{arith, ◌≡◌, ℕ, ◌+◌, [], ◌∷◌, ◌++◌, get_or, sym, refl, ap, subst}
+use Rattle.std.proofs.Common.{arith, ◌≡◌, ℕ, ◌+◌, [], ◌∷◌, ◌++◌, get_or, sym, subst}
 use Rattle.std.proofs.Math.ListN.{set}
 use Rattle.std.proofs.lemmas.Grind.{common_steps}
 use Rattle.runtime_histories.specs.Deeds.{uses}
 use Rattle.module_counts.specs.Tracking.{Tracks}
 use Rattle.module_counts.proofs.Tracking.{Tracks-use}
-use Rattle.module_counts.proofs.Going.{goes_use}
 use Rattle.module_counts.proofs.ages.Ages.start.Goals as goal
 
 pub returns-clause-tracks : goal.returns-clause-tracks
@@ -13,9 +12,3 @@ returns-clause-tracks c = λ ms t.
     let h = Tracks-use held stamps clock ms k t c.requires.known in
     let e : c.index_mut.result.now ≡ get_or held k 0 = grind (arith, common_steps) in
     subst (λ (z : ℕ). Tracks (set held k (z + 1)) (set stamps k (clock + 1)) clock (ms ++ uses k ∷ [])) (sym e) h
-
-pub returns-clause-goes : goal.returns-clause-goes
-returns-clause-goes c =
-    let held = c.args.self.now.held.items in let k = c.args.which in
-    let e : c.index_mut.result.now ≡ get_or held k 0 = grind (arith, common_steps) in
-    goes_use c.args.self.now _ k c.requires.known c.requires.same (ap (λ (z : ℕ). set held k (z + 1)) e) refl refl refl refl refl

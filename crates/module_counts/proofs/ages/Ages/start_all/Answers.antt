@@ -14,12 +14,9 @@ loop-ordinal-preserved c =
     let lt : c.loop-ordinal.ordinal-index < length c.args.ordinals.now = omega arith in
     start_more c.args.graph.now.edges c.args.ordinals.now c.loop-ordinal.ordinal-index 0 lt
     c.args.self.now c.loop-ordinal.self c.start_one.new.self
-    c.loop-ordinal.invariant c.start_one.ensures.tracks c.start_one.ensures.same c.start_one.ensures.stays c.start_one.ensures.more c.start_one.ensures.clock c.start_one.ensures.goes
+    c.loop-ordinal.invariant c.start_one.ensures.tracks c.start_one.ensures.same c.start_one.ensures.stays c.start_one.ensures.more c.start_one.ensures.clock
 
 pub returns-clause-tracks : goal.returns-clause-tracks
 returns-clause-tracks c = λ ms t.
     let e : take c.loop-ordinal.ordinal-index c.args.ordinals.now ≡ c.args.ordinals.now = grind (arith, common_steps) in
     subst (λ (z : List ℕ). IsTracking c.loop-ordinal.self (ms ++ map uses (modules_of c.args.graph.now.edges z))) e (c.loop-ordinal.invariant.tracks ms t)
-
-pub returns-clause-goes : goal.returns-clause-goes
-returns-clause-goes c = c.loop-ordinal.invariant.goes

@@ -13,19 +13,16 @@ pub loop-ordinal-preserved : goal.loop-ordinal-preserved
 loop-ordinal-preserved c =
     let lt : c.loop-ordinal.ordinal-index < length c.args.ordinals.now = omega arith in
     stop_more c.args.graph.now.edges c.args.ordinals.now c.loop-ordinal.ordinal-index 0 lt
-    c.loop-ordinal.gone c.stop_one-gone.result c.args.self.now c.loop-ordinal.self c.stop_one-gone.new.self
-    c.loop-ordinal.invariant c.stop_one-gone.ensures.tracks c.stop_one-gone.ensures.same c.stop_one-gone.ensures.stays c.stop_one-gone.ensures.less c.stop_one-gone.ensures.clock c.stop_one-gone.ensures.goes
+    c.args.self.now c.loop-ordinal.self c.stop_one.new.self
+    c.loop-ordinal.invariant c.stop_one.ensures.tracks c.stop_one.ensures.same c.stop_one.ensures.stays c.stop_one.ensures.less c.stop_one.ensures.clock
 
 pub returns-clause-tracks : goal.returns-clause-tracks
 returns-clause-tracks c = λ ms t.
     let e : take c.loop-ordinal.ordinal-index c.args.ordinals.now ≡ c.args.ordinals.now = grind (arith, common_steps) in
     subst (λ (z : List ℕ). IsTracking c.loop-ordinal.self (ms ++ map releases (modules_of c.args.graph.now.edges z))) e (c.loop-ordinal.invariant.tracks ms t)
 
-pub stop_one-gone-requires-clause-held : goal.stop_one-gone-requires-clause-held
-stop_one-gone-requires-clause-held c = λ m is.
+pub stop_one-requires-clause-held : goal.stop_one-requires-clause-held
+stop_one-requires-clause-held c = λ m is.
     let lt : c.loop-ordinal.ordinal-index < length c.args.ordinals.now = omega arith in
     stop_has c.args.graph.now.edges c.args.ordinals.now c.loop-ordinal.ordinal-index 0 lt
-    c.loop-ordinal.gone c.args.self.now c.loop-ordinal.self c.loop-ordinal.invariant c.requires.enough m is
-
-pub returns-clause-goes : goal.returns-clause-goes
-returns-clause-goes c = c.loop-ordinal.invariant.goes
+    c.args.self.now c.loop-ordinal.self c.loop-ordinal.invariant c.requires.enough m is

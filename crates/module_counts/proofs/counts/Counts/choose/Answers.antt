@@ -1,8 +1,7 @@
-use Rattle.std.proofs.Common.{◌≡◌, ◌≤◌, ◌+◌, ◌∙◌, ℕ, List, length, ap, sym, subst, map, arith}
-use Rattle.module_counts.specs.declared.store.Place.{Place}
+use Rattle.std.proofs.Common.{◌≡◌, ◌≤◌, ◌+◌, ◌∙◌, ℕ, List, length, ap, sym, subst, arith}
 use Rattle.runtime_histories.specs.Entries.{deeds}
 use Rattle.runtime_histories.specs.Places.{all_pages, all_needs, places, lowest, free}
-use Rattle.module_counts.specs.Stocks.{seat, seat_pages}
+use Rattle.module_counts.specs.Stocks.{seat_pages, kept_seats}
 use Rattle.module_counts.specs.Counting.{Booked}
 use Rattle.module_counts.proofs.Asking.{pages_are}
 use Rattle.module_counts.proofs.Tidying.{length-lowest}
@@ -12,7 +11,7 @@ pub returns-in-Ok : goal.returns-in-Ok
 returns-in-Ok c =
     let log = deeds c.self.inside.journal.items in
     let s = c.self.inside.stock in
-    let all : seat_pages (map seat c.as_slice.result.now) ≡ all_pages (places s.pages log) = ap (λ (z : List Place). seat_pages (map seat z)) c.as_slice.ensures.value ∙ pages_are _ s log c.self.invariant.stock in
+    let all : seat_pages (kept_seats s.ages s.homes) ≡ all_pages (places s.pages log) = pages_are _ s log c.self.invariant.stock in
     let chosen : c.in-Ok.pages.items ≡ lowest s.pages (all_pages (places s.pages log)) c.args.need = c.in-Ok.ensures ∙ ap (λ (z : List ℕ). lowest s.pages z c.args.need) all in
     let fits : c.args.need ≤ free c.args.self.now.pages (deeds c.args.self.now.journal) = (let f = c.free_pages-free.ensures in let n = c.if-need-free.false in omega arith) in
     let within : c.args.need ≤ free s.pages log = subst (λ (z : Booked). c.args.need ≤ free z.pages (deeds z.journal)) (sym c.self.view_is) fits in

@@ -1,10 +1,7 @@
-use Rattle.std.proofs.Common.{◌≡◌, ◌-◌, ◌^◌, ◌<◌, ℕ, length, map, ap, subst, arith}
+use Rattle.std.proofs.Common.{◌≡◌, ◌-◌, ◌^◌, ◌<◌, ℕ, ap, subst, arith}
 use Rattle.std.proofs.lemmas.Grind.{common_steps}
-use Rattle.module_counts.specs.declared.store.Place.{Place}
-use Rattle.std.proofs.Common.{List}
 use Rattle.runtime_histories.specs.Entries.{deeds}
 use Rattle.runtime_histories.specs.Places.{all_needs, places, free}
-use Rattle.module_counts.specs.Stocks.{seat, seat_pages}
 use Rattle.module_counts.specs.Counting.{Booked}
 use Rattle.module_counts.proofs.Asking.{taken_is}
 use Rattle.module_counts.proofs.counts.Counts.free_pages.Goals as goal
@@ -13,14 +10,12 @@ pub overflow_sub-result : goal.overflow_sub-result
 overflow_sub-result c =
     let log = deeds c.self.inside.journal.items in let s = c.self.inside.stock in
     let t = taken_is _ s log c.self.invariant.stock in let w = c.self.invariant.stock.tidy.within in
-    let e : length (seat_pages (map seat c.as_slice.result.now)) ≡ length (seat_pages (map seat s.placed.items)) = ap (λ (z : List Place). length (seat_pages (map seat z))) c.as_slice.ensures.value in
     let r = c.taken_pages-taken.ensures in omega arith
 
 pub returns : goal.returns
 returns c =
     let log = deeds c.self.inside.journal.items in let s = c.self.inside.stock in
     let t = taken_is _ s log c.self.invariant.stock in let w = c.self.invariant.stock.tidy.within in
-    let e : length (seat_pages (map seat c.as_slice.result.now)) ≡ length (seat_pages (map seat s.placed.items)) = ap (λ (z : List Place). length (seat_pages (map seat z))) c.as_slice.ensures.value in
     let small : s.pages < 2 ^ 32 = grind (arith, common_steps) in
     let r = c.taken_pages-taken.ensures in
     subst (λ (z : Booked). s.pages - c.taken_pages-taken.result ≡ free z.pages (deeds z.journal)) c.self.view_is

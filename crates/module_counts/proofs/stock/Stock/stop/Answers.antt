@@ -9,7 +9,6 @@ use Rattle.module_counts.specs.Admitting.{Success, success_of}
 use Rattle.module_counts.specs.Successes.{IsSuccess}
 use Rattle.module_counts.specs.Lives.{pair_shown}
 use Rattle.module_counts.proofs.Entering.{is_by, some_is}
-use Rattle.module_counts.proofs.Going.{goes_none}
 use Rattle.module_counts.proofs.stock.Stock.stop.Goals as goal
 
 live_of_pair : (from to : List ℕ) (v : Success) (xs ys : List Live) (r : Bool) → xs ≡ ys → v.pair.generation ≡ 0 → v.pair.from ≡ from → v.pair.to ≡ to
@@ -30,6 +29,3 @@ returns-in-Some-clause-tracks c = λ v e ms t.
     let l = live_of_pair c.in-Some.found.from.now c.in-Some.found.to.now v c.args.self.now.live.items c.args.self.now.live.items c.has_pair-is_live.result refl is.generation is.from is.to c.has_pair-is_live.ensures in
     subst (λ (b : Bool). IsTracking c.stop_pair.new.ages (ms ++ cond b [] (map releases (modules_of c.args.graph.now.edges v.ordinals)))) l
     (subst (λ (z : List ℕ). IsTracking c.stop_pair.new.ages (ms ++ cond c.has_pair-is_live.result [] (map releases (modules_of c.args.graph.now.edges z)))) (sym is.ordinals) (c.stop_pair.ensures.tracks ms t))
-
-pub returns-in-None-clause-goes : goal.returns-in-None-clause-goes
-returns-in-None-clause-goes c = goes_none c.args.self.now.ages

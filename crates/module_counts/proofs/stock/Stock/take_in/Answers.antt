@@ -19,5 +19,5 @@ returns-in-Some-clause-stock c =
 pub returns-in-None-clause-stock : goal.returns-in-None-clause-stock
 returns-in-None-clause-stock c =
     let g = c.args.graph.now in let log = deeds c.args.journal.now in
-    subst (λ (d : Deed). IsStock g (record { live = c.skip.new.self; ages = c.args.self.now.ages; placed = c.args.self.now.placed; pages = c.args.self.now.pages }) (log ++ act c.args.entry.now.caller d ∷ [])) (sym (deed_is c.args.entry.now.event c.requires.opening ∙ ap deed_by c.in-None.ensures))
+    subst (λ (d : Deed). IsStock g (record { live = c.skip.new.self; ages = c.args.self.now.ages; homes = c.args.self.now.homes; pages = c.args.self.now.pages }) (log ++ act c.args.entry.now.caller d ∷ [])) (sym (deed_is c.args.entry.now.event c.requires.opening ∙ ap deed_by c.in-None.ensures))
     (stock_rested g c.args.self.now _ log c.args.entry.now.caller c.requires.stock refl c.skip.ensures.items c.skip.ensures.slots refl refl)
