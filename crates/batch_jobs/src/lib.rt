@@ -15,8 +15,6 @@ mod numbers;
 mod outcomes;
 mod refusal_texts;
 mod reports;
-#[cfg(test)]
-mod tests;
 
 pub use generated::{Generated, generate};
 pub use job_reader::read_jobs;

@@ -3,7 +3,7 @@
 ghost use Rattle.std.specs.Prelude.{◌≤◌, length};
 ghost use Rattle.text_lines.specs.Limits.{longest_text};
 
-use crate::{JobFault, Outcome, journal_text, read_jobs, report, report_line, sum_report};
+use batch_jobs::{JobFault, Outcome, journal_text, read_jobs, report, report_line, sum_report};
 use chain_search::Ordinals;
 use charmap_reader::{MapFault, MapKind};
 use code_pairs::Code;
