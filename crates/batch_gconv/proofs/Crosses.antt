@@ -15,7 +15,7 @@ use Rattle.runtime_room.specs.contracts.desk.Noted as noted
 use Rattle.module_graph.proofs.graph.Graph.TheSendSync as graph
 use Rattle.names_alias.proofs.aliases.Aliases.TheSendSync as aliases
 use Rattle.module_counts.proofs.stock.Stock.TheSendSync as stock
-use Rattle.code_table.proofs.image.Layout.TheSendSync as layout
+use Rattle.code_table.proofs.layout.Layout.TheSendSync as layout
 use Rattle.gconv_runtime.specs.contracts.tokens.Gconv as gconv_row
 use Rattle.gconv_runtime.specs.contracts.tokens.Caller as caller_row
 use Rattle.runtime_room.specs.contracts.basis.Basis as basis

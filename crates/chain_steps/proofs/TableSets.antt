@@ -13,8 +13,8 @@ use Rattle.step_unicode.specs.Points.{IsPoint}
 use Rattle.unit_relations.specs.Units.{Piece, Reads}
 use Rattle.wide_lanes.specs.Wide.{AreWide}
 use Rattle.step_table.specs.Many.{ArePut}
-use Rattle.step_table.specs.Eight.{AreCodes, AreEight}
-use Rattle.step_table.specs.declared.eight.Eight.{Eight}
+use Rattle.code_table.specs.Eights.{AreCodes, AreEight}
+use Rattle.code_table.specs.declared.eights.Eight.{Eight}
 use Rattle.step_table.specs.Sets.{IsTableUnit, IsInTable, spelled, table_spelling}
 use Rattle.step_iso2022jp.specs.Sets.{IsJpUnit, IsPointUnit, IsInJp, Written, written_of, jp_spelling, jp_bytes, jp_after}
 use Rattle.chain_steps.specs.Appended.{IsAppended}

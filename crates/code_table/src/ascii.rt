@@ -3,10 +3,11 @@
 ghost use Rattle.std.specs.Prelude.{◌≡◌, ◌∷◌, []};
 ghost use Rattle.code_pairs.specs.Tables.{Table, point_of};
 ghost use Rattle.code_table.specs.Ascii.{is_ascii, is_found, is_own, is_single};
-ghost use Rattle.code_table.specs.Images.{IsImage, IsImageOf};
+ghost use Rattle.code_table.specs.Images.{IsImage, IsImageOf, IsPlane};
 ghost use Rattle.code_table.specs.Looks.{look_of};
 
-use crate::image::{Layout, bytes_in, code_in};
+use crate::image::{bytes_in, code_in};
+use crate::layout::Layout;
 use crate::lookup::Look;
 use code_pairs::Code;
 use trie::Flat;
@@ -36,6 +37,7 @@ fn is_byte(code: Option<Code>, byte: u8) -> bool
 /// Whether a byte stands for its own number, and is the code of that point.
 fn is_own(words: &[u64], layout: Layout, byte: u8) -> bool
     requires image { IsImage layout.root layout.pages words.now }
+    requires plane { IsPlane layout.root layout.plane words.now }
     ensures { (table : Table) → IsImageOf table layout.root layout.pages words.now →
         result ≡ is_own table byte }
 {
@@ -48,6 +50,7 @@ fn is_own(words: &[u64], layout: Layout, byte: u8) -> bool
 /// the first one that doesn't.
 pub fn is_ascii(words: &[u64], layout: Layout) -> bool
     requires image { IsImage layout.root layout.pages words.now }
+    requires plane { IsPlane layout.root layout.plane words.now }
     ensures { (table : Table) → IsImageOf table layout.root layout.pages words.now →
         result ≡ is_ascii table }
 {

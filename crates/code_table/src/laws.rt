@@ -1,10 +1,12 @@
 //! What holds of look-ups in every well formed table and of every two of them, and of page images.
 
-ghost use Rattle.std.specs.Prelude.{◌≡◌, ◌*◌, ◌<◌, ◌^◌, ℕ, List, length, true};
-ghost use Rattle.code_pairs.specs.Tables.{Table, IsWellFormed};
+ghost use Rattle.std.specs.Prelude.{◌≡◌, ◌*◌, ◌<◌, ◌^◌, ℕ, List, length, true, Some, None};
+ghost use Rattle.code_pairs.specs.Tables.{Table, IsWellFormed, code_of};
 ghost use Rattle.code_table.specs.Ascii.{is_ascii, IsAscii};
+ghost use Rattle.code_table.specs.Double.{is_double, all_double};
 ghost use Rattle.code_table.specs.HandsBack.{HandsBack};
-ghost use Rattle.code_table.specs.Images.{root_of, page_count, image};
+ghost use Rattle.code_table.specs.Images.{root_of, plane_of, page_count, image, IsPlane};
+ghost use Rattle.code_table.specs.Last.{last_point};
 ghost use Rattle.code_table.specs.Looks.{look_of, IsLook};
 
 use crate::lookup::Lookup;
@@ -24,10 +26,21 @@ pub fn hand_back_twice<T: Lookup>()
         HandsBack T.tables T.ready T.kept y z → HandsBack T.tables T.ready T.kept x z }
 {}
 
-/// Where a table's lower half is ASCII, each of its bytes stands for its own number, and is the code of it.
+/// What the parts of a layout tell of look-ups: no point above the greatest one has a code, the codes of
+/// a table of double codes are double, and in a table whose lower half is ASCII each of its bytes stands
+/// for its own number, and is the code of it.
 #[inline(always)]
-pub fn ascii_tells()
-    ensures { (table : Table) → is_ascii table ≡ true → IsAscii table }
+pub fn hints_tell()
+    ensures last { (table : Table) (point : ℕ) → last_point table < point → code_of table point ≡ None }
+    ensures double { (table : Table) (point : ℕ) (code : List ℕ) → all_double table ≡ true →
+        code_of table point ≡ Some code → is_double code ≡ true }
+    ensures ascii { (table : Table) → is_ascii table ≡ true → IsAscii table }
+{}
+
+/// The page of the first plane is the one to which the first word of a page image's root refers.
+#[inline(always)]
+pub fn planes_lead()
+    ensures { (table : Table) → IsPlane (root_of table) (plane_of table) (image table) }
 {}
 
 /// A page image has 256 words a page.

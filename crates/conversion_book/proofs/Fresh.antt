@@ -1,5 +1,5 @@
 -- The number of an opening is new.
-use Rattle.std.proofs.Common.{◌≡◌, ℕ, ◌<◌, eqb, Bool, true, false, not, cond, List, [], ◌∷◌, ◌++◌, length, map, refl, ap, ◌∙◌, sym, subst, arith, Option, Some, None, inl, inr, eq-eqb, ne_eqb}
+use Rattle.std.proofs.Common.{◌≡◌, ℕ, ◌<◌, Bool, true, false, not, cond, List, [], ◌∷◌, ◌++◌, length, map, refl, ap, ◌∙◌, sym, subst, arith, Some, None, inl, inr, eq-eqb, ne_eqb}
 use Rattle.std.specs.List.{filter, AllByRecursion}
 use Rattle.runtime_histories.specs.Deeds.{Deeds, Desc, openings, closed, IsIn}
 use Rattle.runtime_histories.proofs.Basics.{number_range}

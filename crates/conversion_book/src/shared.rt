@@ -6,7 +6,7 @@ ghost use Rattle.code_pairs.specs.Tables.{IsWellFormed};
 ghost use Rattle.code_table.specs.WellFormed.{AreWellFormed};
 
 use code_pairs::Code;
-use code_table::{CodeTable, Look, Lookup};
+use code_table::{CodeTable, Codes, Eight, Look, Lookup};
 use runtime_histories::ModuleTables;
 use std::alloc::{AllocError, Global};
 use std::marker::Model;
@@ -152,6 +152,16 @@ impl Lookup for SharedTables {
     #[inline(always)]
     fn bytes(&mut self, table: u32, point: u32) -> Option<Code> {
         self.list[table as usize].bytes(point)
+    }
+
+    #[inline(always)]
+    fn eight(&mut self, table: u32, input: &[u8]) -> Option<Eight> {
+        self.list[table as usize].eight(input)
+    }
+
+    #[inline(always)]
+    fn codes(&mut self, table: u32, points: &[u16]) -> Option<Codes> {
+        self.list[table as usize].codes(points)
     }
 
     #[inline(always)]

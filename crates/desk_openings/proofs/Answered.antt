@@ -4,7 +4,7 @@ use Rattle.std.specs.List.{AllByRecursion}
 use Rattle.std.specs.declared.vec.Vec.{Vec}
 use Rattle.std.specs.declared.alloc.Global.{Global}
 use Rattle.code_pairs.specs.Tables.{HasPoints}
-use Rattle.code_table.specs.declared.image.Layout.{Layout}
+use Rattle.code_table.specs.declared.layout.Layout.{Layout}
 use Rattle.chain_search.specs.declared.chain.Chain.{Chain}
 use Rattle.derivation_cache.specs.Known.{Known}
 use Rattle.module_graph.specs.Graph.{Shape}

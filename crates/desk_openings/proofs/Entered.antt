@@ -4,7 +4,7 @@ use Rattle.std.specs.List.{flat_map, AllByRecursion}
 use Rattle.std.specs.declared.vec.Vec.{Vec}
 use Rattle.std.specs.declared.alloc.Global.{Global}
 use Rattle.code_pairs.specs.Tables.{Tables}
-use Rattle.code_table.specs.declared.image.Layout.{Layout}
+use Rattle.code_table.specs.declared.layout.Layout.{Layout}
 use Rattle.chain_recipes.specs.Recipes.{recipe_for}
 use Rattle.chain_steps.specs.Chains.{CanRun}
 use Rattle.chain_steps.specs.declared.recipe.Recipe.{Recipe}

@@ -3,7 +3,7 @@ use Rattle.std.proofs.Common.{◌≡◌, ◌≢◌, ℕ, suc, zero, ◌+◌, ◌
 use Rattle.std.specs.declared.vec.Vec.{Vec}
 use Rattle.std.specs.declared.alloc.Global.{Global}
 use Rattle.std.proofs.lemmas.List.{map-append, take_more}
-use Rattle.code_table.specs.declared.image.Layout.{Layout}
+use Rattle.code_table.specs.declared.layout.Layout.{Layout}
 use Rattle.module_counts.specs.Stocks.{Once}
 use Rattle.code_pairs.specs.Tables.{Tables}
 use Rattle.runtime_histories.specs.declared.loads.Load.{Load}
@@ -13,7 +13,8 @@ use Rattle.runtime_histories.specs.Legal.{loaded_modules}
 use Rattle.runtime_histories.specs.Places.{among}
 use Rattle.runtime_histories.proofs.Basics.{any-append}
 use Rattle.runtime_room.specs.Apart.{all_join}
-use Rattle.runtime_room.specs.Desks.{layout_of, layouts_at}
+use Rattle.code_table.specs.Layouts.{layout_of}
+use Rattle.runtime_room.specs.Desks.{layouts_at}
 use Rattle.desk_openings.specs.Layouts.{KeepsLayouts, AreKept}
 use Rattle.desk_openings.proofs.Lists.{or_false, or_left, or_right}
 

@@ -3,7 +3,7 @@ use Rattle.std.proofs.Common.{◌≡◌, ◌⊎◌, ℕ, ◌+◌, ◌≤◌, fal
 use Rattle.std.specs.List.{AllByRecursion}
 use Rattle.std.specs.declared.vec.Vec.{Vec}
 use Rattle.std.specs.declared.alloc.Global.{Global}
-use Rattle.code_table.specs.declared.image.Layout.{Layout}
+use Rattle.code_table.specs.declared.layout.Layout.{Layout}
 use Rattle.module_graph.specs.Graph.{Shape}
 use Rattle.history_core.specs.History.{History}
 use Rattle.history_core.specs.Rule.{last_fill}

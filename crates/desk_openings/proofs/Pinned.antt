@@ -6,9 +6,8 @@ use Rattle.std.specs.declared.vec.Vec.{Vec}
 use Rattle.std.specs.declared.alloc.Global.{Global}
 use Rattle.std.proofs.lemmas.List.{map-append, drop_more}
 use Rattle.code_pairs.specs.Tables.{Table}
-use Rattle.code_table.specs.Ascii.{is_ascii}
-use Rattle.code_table.specs.Images.{page_count, root_of}
-use Rattle.code_table.specs.declared.image.Layout.{Layout}
+use Rattle.code_table.specs.Images.{page_count}
+use Rattle.code_table.specs.declared.layout.Layout.{Layout}
 use Rattle.module_counts.specs.Counting.{Booked}
 use Rattle.module_counts.specs.Stocks.{lists, places_for}
 use Rattle.page_store.specs.Holdings.{Holding}
@@ -19,7 +18,8 @@ use Rattle.runtime_histories.specs.Entries.{deeds, loaded_of}
 use Rattle.runtime_histories.specs.Legal.{loaded_modules}
 use Rattle.runtime_histories.specs.Places.{Placed, among, pages_for, pages_of, placed_at, place_loads, places}
 use Rattle.runtime_histories.specs.Residence.{resident}
-use Rattle.runtime_room.specs.Desks.{layout_of, layouts_at, IsLaidOut}
+use Rattle.code_table.specs.Layouts.{layout_of}
+use Rattle.runtime_room.specs.Desks.{layouts_at, IsLaidOut}
 use Rattle.runtime_room.specs.Rooms.{parts}
 use Rattle.desk_openings.specs.Layouts.{KeepsLayouts, AreKept}
 use Rattle.desk_openings.specs.Parts.{place_of, parts_at, parts_for, IsThere, AreThere, ArePinsOf}
@@ -30,12 +30,12 @@ use Rattle.desk_openings.proofs.Lists.{or_false, cases}
 
 -- What the pin of a held table says.
 abbrev pub shown_of : Holding → Shown
-shown_of h = record { pages = h.pages; root = root_of h.table; ascii = is_ascii h.table }
+shown_of h = record { pages = h.pages; layout = layout_of h.table }
 
 -- Pages cut by the images of tables are the pages of these.
 pub cut_are : (ts : List Table) (pages : List ℕ) → cut_pins (map layout_of ts) pages ≡ map shown_of (parts ts pages)
 cut_are [] pages = refl
-cut_are (t ∷ ts) pages = ap (λ (z : List Shown). record { pages = take (page_count t) pages; root = root_of t; ascii = is_ascii t } ∷ z) (cut_are ts (drop (page_count t) pages))
+cut_are (t ∷ ts) pages = ap (λ (z : List Shown). record { pages = take (page_count t) pages; layout = layout_of t } ∷ z) (cut_are ts (drop (page_count t) pages))
 
 pub images_pages : (ts : List Table) → layout_pages (map layout_of ts) ≡ pages_for ts
 images_pages [] = refl
@@ -56,7 +56,7 @@ pins_are [] (p ∷ ps) e = absurd (let n = ap length e in omega arith)
 pins_are (h ∷ hs) [] e = absurd (let n = ap length e in omega arith)
 pins_are (h ∷ hs) (p ∷ ps) e =
     let z : shown p ≡ shown_of h = ap (head_or (shown p)) e in
-    ((ap (λ (s : Shown). s.pages) z, ap (λ (s : Shown). s.root) z, ap (λ (s : Shown). s.ascii) z), pins_are hs ps (ap tail e))
+    ((ap (λ (s : Shown). s.pages) z, ap (λ (s : Shown). s.layout) z), pins_are hs ps (ap tail e))
 
 -- Loads, each with its pages.
 abbrev pub placed_by : List Loaded → List (List ℕ) → List Placed

@@ -3,10 +3,11 @@ use Rattle.std.specs.Prelude.{◌≡◌, ℕ, false, List, map}
 use Rattle.std.specs.List.{AllByRecursion}
 use Rattle.std.specs.declared.vec.Vec.{Vec}
 use Rattle.std.specs.declared.alloc.Global.{Global}
-use Rattle.code_table.specs.declared.image.Layout.{Layout}
+use Rattle.code_table.specs.declared.layout.Layout.{Layout}
 use Rattle.runtime_histories.specs.Deeds.{Loaded}
 use Rattle.runtime_histories.specs.Places.{among}
-use Rattle.runtime_room.specs.Desks.{layout_of, layouts_at}
+use Rattle.code_table.specs.Layouts.{layout_of}
+use Rattle.runtime_room.specs.Desks.{layouts_at}
 
 -- The parts of the images of all other modules are as they were.
 abbrev pub KeepsLayouts : List (Vec Layout Global) → List (Vec Layout Global) → List ℕ → Type 0

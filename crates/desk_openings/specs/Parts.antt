@@ -2,8 +2,7 @@
 use Rattle.std.specs.Prelude.{◌≡◌, ℕ, List, [], ◌∷◌, ◌++◌, map, Option, Some, None, ◌==◌, if◌then◌else◌}
 use Rattle.std.specs.List.{AllByRecursion}
 use Rattle.code_pairs.specs.Tables.{Tables}
-use Rattle.code_table.specs.Ascii.{is_ascii}
-use Rattle.code_table.specs.Images.{root_of}
+use Rattle.code_table.specs.Layouts.{layout_of}
 use Rattle.page_store.specs.Holdings.{Holding}
 use Rattle.page_store.specs.declared.pin.Pin.{Pin}
 use Rattle.runtime_histories.specs.Places.{Placed}
@@ -37,7 +36,7 @@ AreThere held modules = AllByRecursion (λ (m : ℕ). IsThere (place_of held m))
 
 -- The pin is that of the table in its pages.
 abbrev pub IsPinOf : Holding → Pin → Type 0
-IsPinOf h pin = (pin.pages.items ≡ h.pages) × (pin.root ≡ root_of h.table) × (pin.ascii ≡ is_ascii h.table)
+IsPinOf h pin = (pin.pages.items ≡ h.pages) × (pin.layout ≡ layout_of h.table)
 
 abbrev pub ArePinsOf : List Holding → List Pin → Type 0
 ArePinsOf [] [] = Unit {0}

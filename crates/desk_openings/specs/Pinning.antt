@@ -4,7 +4,7 @@ use Rattle.std.specs.Prelude.{List, [], ◌∷◌, length, take, drop}
 use Rattle.std.specs.List.{flat_map}
 use Rattle.std.specs.declared.vec.Vec.{Vec}
 use Rattle.std.specs.declared.alloc.Global.{Global}
-use Rattle.code_table.specs.declared.image.Layout.{Layout}
+use Rattle.code_table.specs.declared.layout.Layout.{Layout}
 use Rattle.module_counts.specs.Counting.{Booked}
 use Rattle.page_store.specs.declared.pin.Pin.{Pin}
 use Rattle.runtime_histories.specs.declared.loads.Load.{Load}
@@ -14,14 +14,13 @@ use Rattle.runtime_histories.specs.Places.{places, pages_of}
 use Rattle.runtime_histories.specs.Residence.{resident}
 use Rattle.runtime_room.specs.Desks.{layouts_at}
 
--- What a pin says: the pages of an image, the number of its root page, and whether the lower half is ASCII.
+-- What a pin says: the pages of an image, and its parts.
 pub record Shown : Type 0 where
   pub pages : List ℕ
-  pub root : ℕ
-  pub ascii : Bool
+  pub layout : Layout
 
 abbrev pub shown : Pin → Shown
-shown pin = record { pages = pin.pages.items; root = pin.root; ascii = pin.ascii }
+shown pin = record { pages = pin.pages.items; layout = pin.layout }
 
 -- How many pages images have.
 abbrev pub layout_pages : List Layout → ℕ
@@ -31,7 +30,7 @@ layout_pages (l ∷ ls) = l.pages + layout_pages ls
 -- Pages cut by images, one after another.
 abbrev pub cut_pins : List Layout → List ℕ → List Shown
 cut_pins [] pages = []
-cut_pins (l ∷ ls) pages = record { pages = take l.pages pages; root = l.root; ascii = l.ascii } ∷ cut_pins ls (drop l.pages pages)
+cut_pins (l ∷ ls) pages = record { pages = take l.pages pages; layout = l } ∷ cut_pins ls (drop l.pages pages)
 
 -- The pages that a module is given, if it is loaded.
 abbrev pub given_to : ℕ → List Load → List (List ℕ) → Option (List ℕ)

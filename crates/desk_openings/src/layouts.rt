@@ -3,19 +3,13 @@ ghost use Rattle.std.specs.Prelude.{◌≡◌, ◌≢◌, ◌≤◌, ◌<◌, �
 ghost use Rattle.runtime_histories.specs.Entries.{loaded_of};
 ghost use Rattle.runtime_histories.specs.Legal.{loaded_modules};
 ghost use Rattle.module_counts.specs.Stocks.{Once};
-ghost use Rattle.runtime_room.specs.Desks.{layout_of, layouts_at};
+ghost use Rattle.code_table.specs.Layouts.{layout_of};
+ghost use Rattle.runtime_room.specs.Desks.{layouts_at};
 ghost use Rattle.desk_openings.specs.Layouts.{KeepsLayouts, AreKept};
 
 use code_table::{CodeTable, Layout};
 use runtime_histories::{Load, ModuleTables};
 use std::alloc::{AllocError, Global};
-
-/// The parts of a table's page image.
-fn parts_of(table: &CodeTable) -> Layout
-    ensures { result ≡ layout_of table.now }
-{
-    table.layout()
-}
 
 /// The parts of the page images of tables.
 fn all_parts(alloc: Global, tables: &[CodeTable]) -> Result<Vec<Layout>, AllocError>
@@ -23,7 +17,7 @@ fn all_parts(alloc: Global, tables: &[CodeTable]) -> Result<Vec<Layout>, AllocEr
 {
     let mut list = Vec::new(alloc);
     for table in tables {
-        list.push(parts_of(table))?;
+        list.push(table.layout())?;
     }
     Ok(list)
 }

@@ -34,14 +34,13 @@ fn push_pin<'a>(
 ) -> Result<&'a [u32], AllocError>
     requires { layout.pages ≤ length pages.now }
     ensures pin { IfOk result (λ _. map shown pins.new.items
-        ≡ map shown pins.old.items ++ record { pages = take layout.pages pages.now; root = layout.root; ascii = layout.ascii } ∷ []) }
+        ≡ map shown pins.old.items ++ record { pages = take layout.pages pages.now; layout = layout } ∷ []) }
     ensures rest { IfOk result (λ r. r.now ≡ drop layout.pages pages.now) }
 {
     let (part, rest) = pages.split_at(layout.pages as usize);
     pins.push(Pin {
         pages: copied(alloc, part)?,
-        root: layout.root,
-        ascii: layout.ascii,
+        layout,
     })?;
     Ok(rest)
 }

@@ -7,8 +7,8 @@ use Rattle.std.specs.List.{filter, list_any, AllByRecursion}
 use Rattle.std.specs.Str.{bytes_eq}
 use Rattle.std.proofs.lemmas.Slice.Eq.{bytes_eq-Decides}
 use Rattle.code_pairs.specs.Tables.{Table}
-use Rattle.code_table.specs.Ascii.{is_ascii}
-use Rattle.code_table.specs.Images.{page_count, root_of, code_leaves}
+use Rattle.code_table.specs.Images.{page_count, code_leaves}
+use Rattle.code_table.specs.Layouts.{layout_of}
 use Rattle.trie.proofs.Fills.{some_page}
 use Rattle.module_counts.specs.Stocks.{Once}
 use Rattle.page_store.specs.Holdings.{Holding, Among, is_held, table_in, IsWithin}
@@ -229,8 +229,7 @@ pins_tell all words pages (p ∷ ps) (h ∷ hs) once some e below there pins =
         record {
           held = ap (is_held all) pins.0.0 ∙ f.0;
           inside = subst (AllByRecursion (IsWithin words)) (sym pins.0.0) (within_all words pages h.pages e b);
-          decode = pins.0.1 ∙ ap root_of (sym t);
-          half = pins.0.2 ∙ ap is_ascii (sym t);
+          parts = pins.0.1 ∙ ap layout_of (sym t);
         },
         r.pins,
       );

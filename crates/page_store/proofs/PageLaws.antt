@@ -1,12 +1,16 @@
 -- What pins tell of the side words.
-use Rattle.std.proofs.Common.{◌≡◌, ◌+◌, ◌*◌, ◌<◌, ◌≤◌, ◌^◌, ℕ, zero, suc, Bool, List, [], ◌∷◌, length}
-use Rattle.std.proofs.Common.{Option, Some, refl, sym, ap, ◌∙◌, subst, arith, true}
-use Rattle.std.specs.Prelude.{slice_index, unwrap_or, IsSome}
+use Rattle.std.proofs.Common.{◌≡◌, ◌+◌, ◌*◌, ◌<◌, ◌≤◌, ◌^◌, ℕ, zero, suc, List, [], ◌∷◌, length}
+use Rattle.std.proofs.Common.{Option, Some, None, get_or, refl, sym, ap, ◌∙◌, subst, arith, true}
+use Rattle.std.specs.Prelude.{slice_index, unwrap_or, IsSome, IfSome}
 use Rattle.std.specs.List.{AllByRecursion}
+use Rattle.std.proofs.lemmas.List.{get_or-map}
 use Rattle.std.proofs.lemmas.Slice.Eq.{bytes_eq-Decides}
 use Rattle.std.specs.Str.{bytes_eq}
-use Rattle.code_pairs.specs.Tables.{Table, IsWellFormed, HasPoints}
-use Rattle.code_table.specs.Images.{page_count, image, image_word, IsImageOf}
+use Rattle.code_pairs.specs.Tables.{Table, table_at, IsWellFormed, HasPoints}
+use Rattle.code_table.specs.Images.{root_of, plane_of, page_count, image, image_word, IsImageOf, IsPlane}
+use Rattle.code_table.specs.Eights.{AreEight}
+use Rattle.code_table.specs.declared.eights.Eight.{Eight}
+use Rattle.code_table.specs.declared.layout.Layout.{Layout}
 use Rattle.trie.specs.Words.{word_in}
 use Rattle.history_core.specs.History.{History}
 use Rattle.history_core.specs.Tokens.{words_of, pinned_of}
@@ -16,6 +20,8 @@ use Rattle.history_core.specs.declared.tokens.Pass.{Pass}
 use Rattle.page_store.specs.Holdings.{Holding, Among, IsHolding, IsPinnedIn, is_held, table_in}
 use Rattle.page_store.specs.Holdings.{side, IsWithin, IsPin, holdings_of, CanRead}
 use Rattle.page_store.specs.Laws.{HeldIn, held_is}
+use Rattle.page_store.specs.Pins.{tables_of}
+use Rattle.page_store.specs.declared.pin.Pin.{Pin}
 
 -- equal lists of bytes
 same_pages : (xs ys : List ℕ) → bytes_eq xs ys ≡ true → xs ≡ ys
@@ -35,21 +41,41 @@ module _ (hs : List Holding) (pages : List ℕ) where
       (e ∙ ap page_count h.table, subst (λ (n : ℕ). n < 2 ^ 32) (sym e) is.few)
 
   -- the page image of a table is there
-  pub pin_image : (words root count : ℕ) (ascii : Bool) (ws : List ℕ) → ((h : Holding) → Among hs h → IsHolding h)
-      → IsPin hs words pages root ascii → count ≡ length pages → ws ≡ image (table_in hs pages)
-      → IsImageOf (table_in hs pages) root count ws
-  pin_image words root count ascii ws are pin number is =
+  pub pin_image : (words : ℕ) (layout : Layout) (ws : List ℕ) → ((h : Holding) → Among hs h → IsHolding h)
+      → IsPin hs words pages layout → ws ≡ image (table_in hs pages)
+      → IsImageOf (table_in hs pages) layout.root layout.pages ws
+  pin_image words layout ws are pin is =
       let h = held_is hs pages pin.held in
       let holding = are h.holding h.among in
       let n = pages_count are pin.held in
       record {
         well_formed = subst IsWellFormed h.table holding.well_formed;
         numbers = subst HasPoints h.table holding.numbers;
-        decode = pin.decode;
-        all = number ∙ n.0;
+        decode = ap (λ (l : Layout). l.root) pin.parts;
+        all = ap (λ (l : Layout). l.pages) pin.parts;
         few = subst (λ (k : ℕ). k < 2 ^ 32) (n.0) n.1;
         same = is;
       }
+
+  -- and its first plane
+  pub pin_leads : (words : ℕ) (layout : Layout) (ws : List ℕ)
+      → ((table : Table) → IsPlane (root_of table) (plane_of table) (image table))
+      → IsPin hs words pages layout → ws ≡ image (table_in hs pages) → IsPlane layout.root layout.plane ws
+  pin_leads words layout ws lead pin is =
+      let table = table_in hs pages in
+      subst (λ (l : Layout). IsPlane l.root l.plane ws) (sym pin.parts)
+      (subst (IsPlane (root_of table) (plane_of table)) (sym is) (lead table))
+
+-- what is read in every table that has a fact is read in one that has it
+pub eight_is : (o : Option Eight) (input : List ℕ) (table : Table) (P : Table → Type 0) → P table
+    → IfSome o (λ (e : Eight). (t : Table) → P t → AreEight t input e) → IfSome o (AreEight table input)
+eight_is (Some e) input table P there all = all table there
+eight_is None input table P there all = all
+
+-- the table of a pin is the one of its number
+pub table_is : (hs : List Holding) (pins : List Pin) (i : ℕ) (d : Pin) → i < length pins
+    → table_in hs (get_or pins i d).pages.items ≡ table_at (tables_of hs pins) i
+table_is hs pins i d lt = sym (get_or-map (λ (p : Pin). table_in hs p.pages.items) pins i d [] lt)
 
 -- each page image has 256 words a page
 abbrev pub HaveWords : Type 0

@@ -4,8 +4,9 @@ use Rattle.std.specs.Prelude.{List, [], ◌∷◌, length, slice_index, Option, 
 use Rattle.std.specs.List.{AllByRecursion, list_any}
 use Rattle.std.specs.Str.{bytes_eq}
 use Rattle.code_pairs.specs.Tables.{Table, HasPoints, IsWellFormed}
-use Rattle.code_table.specs.Ascii.{is_ascii}
-use Rattle.code_table.specs.Images.{root_of, page_count, image_word}
+use Rattle.code_table.specs.Images.{page_count, image_word}
+use Rattle.code_table.specs.Layouts.{layout_of}
+use Rattle.code_table.specs.declared.layout.Layout.{Layout}
 use Rattle.history_core.specs.History.{History}
 use Rattle.history_core.specs.Rule.{last_fill}
 use Rattle.history_core.specs.Tokens.{setting_of, words_of, front, number, IsPassOf}
@@ -52,13 +53,11 @@ table_in (h ∷ hs) pages = if bytes_eq h.pages pages then h.table else table_in
 abbrev pub IsWithin : ℕ → ℕ → Type 0
 IsWithin words page = 256 * page + 256 ≤ words
 
--- A table lies in these pages, which lie within so many side words; it has so many decode pages, and its lower half
--- is ASCII or isn't.
-pub record IsPin (hs : List Holding) (words : ℕ) (pages : List ℕ) (root : ℕ) (ascii : Bool) : Type 0 where
+-- A table lies in these pages, which lie within so many side words, and has this layout.
+pub record IsPin (hs : List Holding) (words : ℕ) (pages : List ℕ) (layout : Layout) : Type 0 where
   pub held : is_held hs pages ≡ true
   pub inside : AllByRecursion (IsWithin words) pages
-  pub decode : root ≡ root_of (table_in hs pages)
-  pub half : ascii ≡ is_ascii (table_in hs pages)
+  pub parts : layout ≡ layout_of (table_in hs pages)
 
 -- No page stands twice.
 abbrev pub AreApart : List ℕ → Type 0

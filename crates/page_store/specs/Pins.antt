@@ -17,7 +17,7 @@ tables_of hs pins = map (λ (pin : Pin). table_in hs pin.pages.items) pins
 -- Each pin is of a table that is held.
 abbrev pub ArePins : List Holding → ℕ → List Pin → Type 0
 ArePins hs words pins =
-    AllByRecursion (λ (pin : Pin). IsPin hs words pin.pages.items pin.root pin.ascii) pins
+    AllByRecursion (λ (pin : Pin). IsPin hs words pin.pages.items pin.layout) pins
 
 -- The pass is the hall's, and holds the tables of the pins.
 pub record CanLook {S V E T : Type 0} {g : Ghosts S V E T}

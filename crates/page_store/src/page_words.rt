@@ -1,6 +1,7 @@
 //! The words of a table's pages, and the one look-up over them.
-ghost use Rattle.std.specs.Prelude.{◌≡◌, ◌<◌, ◌^◌, length};
+ghost use Rattle.std.specs.Prelude.{◌≡◌, ◌≤◌, length, IfSome};
 ghost use Rattle.code_pairs.specs.Tables.{code_of};
+ghost use Rattle.code_table.specs.Eights.{AreEight, GivesCodes};
 ghost use Rattle.code_table.specs.Looks.{look_of};
 ghost use Rattle.history_core.specs.Tokens.{words_of, IsPassOf, IsSame};
 ghost use Rattle.page_store.specs.Holdings.{table_in, holdings_of, IsPin};
@@ -8,7 +9,9 @@ ghost use Rattle.page_store.specs.Holdings.{table_in, holdings_of, IsPin};
 use crate::pin::Pin;
 use crate::story::PagedStory;
 use code_pairs::Code;
-use code_table::{Layout, Look, bytes_in, code_in, pages_have_words};
+use code_table::{
+    Codes, Eight, Look, bytes_in, code_in, codes_in, eight_in, pages_have_words, planes_lead,
+};
 use history_core::{Hall, Pass};
 use trie::Words;
 
@@ -48,19 +51,6 @@ impl<'a, S: PagedStory> Words for PageWords<'a, S> {
     }
 }
 
-/// The parts of the page image in a pin's pages.
-#[inline(always)]
-fn layout_of(pin: &Pin) -> Layout
-    requires { length pin.now.pages.items < 2 ^ 32 }
-    ensures { (result.root ≡ pin.now.root) × (result.pages ≡ length pin.now.pages.items) }
-{
-    Layout {
-        root: pin.root,
-        pages: pin.pages.len() as u32,
-        ascii: pin.ascii,
-    }
-}
-
 /// What bytes stand for in the table of a pin.
 #[inline(always)]
 pub fn code_through<S: PagedStory>(
@@ -71,18 +61,17 @@ pub fn code_through<S: PagedStory>(
 ) -> Look
     requires own { IsPassOf hall.now pass.old }
     requires pin { IsPin (holdings_of S.holds hall.now pass.old) (words_of hall.now)
-        pin.now.pages.items pin.now.root pin.now.ascii }
+        pin.now.pages.items pin.now.layout }
     ensures value { result
         ≡ look_of (table_in (holdings_of S.holds hall.now pass.old) pin.now.pages.items) bytes.now }
     ensures same { IsSame pass.old pass.new }
 {
-    let layout = layout_of(pin);
     let mut words = PageWords {
         hall,
         pass,
         pages: pin.pages.as_slice(),
     };
-    code_in(&mut words, layout, bytes)
+    code_in(&mut words, pin.layout, bytes)
 }
 
 /// The code of a point in the table of a pin.
@@ -95,16 +84,65 @@ pub fn bytes_through<S: PagedStory>(
 ) -> Option<Code>
     requires own { IsPassOf hall.now pass.old }
     requires pin { IsPin (holdings_of S.holds hall.now pass.old) (words_of hall.now)
-        pin.now.pages.items pin.now.root pin.now.ascii }
+        pin.now.pages.items pin.now.layout }
     ensures value { result
         ≡ code_of (table_in (holdings_of S.holds hall.now pass.old) pin.now.pages.items) point }
     ensures same { IsSame pass.old pass.new }
 {
-    let layout = layout_of(pin);
+    planes_lead();
     let mut words = PageWords {
         hall,
         pass,
         pages: pin.pages.as_slice(),
     };
-    bytes_in(&mut words, layout, point)
+    bytes_in(&mut words, pin.layout, point)
+}
+
+/// The points of the eight codes at the front of some bytes, where each is below 10000 hex.
+#[inline(always)]
+pub fn eight_through<S: PagedStory>(
+    hall: &Hall<S>,
+    pass: &mut Pass<S>,
+    pin: &Pin,
+    input: &[u8],
+) -> Option<Eight>
+    requires own { IsPassOf hall.now pass.old }
+    requires pin { IsPin (holdings_of S.holds hall.now pass.old) (words_of hall.now)
+        pin.now.pages.items pin.now.layout }
+    requires some { 32 ≤ length input.now }
+    ensures eight { IfSome result
+        (AreEight (table_in (holdings_of S.holds hall.now pass.old) pin.now.pages.items) input.now) }
+    ensures same { IsSame pass.old pass.new }
+{
+    let mut words = PageWords {
+        hall,
+        pass,
+        pages: pin.pages.as_slice(),
+    };
+    eight_in(&mut words, pin.layout, input)
+}
+
+/// The codes of eight points in the table of a pin.
+#[inline(always)]
+pub fn codes_through<S: PagedStory>(
+    hall: &Hall<S>,
+    pass: &mut Pass<S>,
+    pin: &Pin,
+    points: &[u16],
+) -> Option<Codes>
+    requires own { IsPassOf hall.now pass.old }
+    requires pin { IsPin (holdings_of S.holds hall.now pass.old) (words_of hall.now)
+        pin.now.pages.items pin.now.layout }
+    requires eight { length points.now ≡ 8 }
+    ensures codes { GivesCodes
+        (table_in (holdings_of S.holds hall.now pass.old) pin.now.pages.items) points.now result }
+    ensures same { IsSame pass.old pass.new }
+{
+    planes_lead();
+    let mut words = PageWords {
+        hall,
+        pass,
+        pages: pin.pages.as_slice(),
+    };
+    codes_in(&mut words, pin.layout, points)
 }

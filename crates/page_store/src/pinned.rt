@@ -1,10 +1,10 @@
 //! Look-ups through pins.
 
-use crate::page_words::{bytes_through, code_through};
+use crate::page_words::{bytes_through, code_through, codes_through, eight_through};
 use crate::pin::Pin;
 use crate::story::PagedStory;
 use code_pairs::Code;
-use code_table::{Look, Lookup, ascii_tells};
+use code_table::{Codes, Eight, Look, Lookup, hints_tell};
 use history_core::{Hall, Pass};
 
 /// Tables that a pass holds, each in the pages of a pin. A look-up takes no turn and doesn't wait.
@@ -54,8 +54,34 @@ impl<'a, S: PagedStory> Lookup for Pinned<'a, S> {
     }
 
     #[inline(always)]
+    fn eight(&mut self, table: u32, input: &[u8]) -> Option<Eight> {
+        let pin = &self.pins[table as usize];
+        let pass = &mut *self.pass;
+        eight_through(self.hall, pass, pin, input)
+    }
+
+    #[inline(always)]
+    fn codes(&mut self, table: u32, points: &[u16]) -> Option<Codes> {
+        let pin = &self.pins[table as usize];
+        let pass = &mut *self.pass;
+        codes_through(self.hall, pass, pin, points)
+    }
+
+    #[inline(always)]
+    fn last(&self, table: u32) -> u32 {
+        hints_tell();
+        self.pins[table as usize].layout.last
+    }
+
+    #[inline(always)]
+    fn is_double(&self, table: u32) -> bool {
+        hints_tell();
+        self.pins[table as usize].layout.double
+    }
+
+    #[inline(always)]
     fn is_ascii(&self, table: u32) -> bool {
-        ascii_tells();
-        self.pins[table as usize].ascii
+        hints_tell();
+        self.pins[table as usize].layout.ascii
     }
 }

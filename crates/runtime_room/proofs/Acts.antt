@@ -3,7 +3,7 @@ use Rattle.std.proofs.Common.{◌≡◌, ◌⊎◌, ℕ, ◌+◌, List, [], ◌�
 use Rattle.std.specs.List.{filter, AllByRecursion}
 use Rattle.std.specs.declared.vec.Vec.{Vec}
 use Rattle.std.specs.declared.alloc.Global.{Global}
-use Rattle.code_table.specs.declared.image.Layout.{Layout}
+use Rattle.code_table.specs.declared.layout.Layout.{Layout}
 use Rattle.history_core.specs.History.{History}
 use Rattle.history_core.specs.Rule.{last_fill}
 use Rattle.runtime_histories.specs.declared.entries.Entry.{Entry}

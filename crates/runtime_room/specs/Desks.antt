@@ -3,10 +3,8 @@ use Rattle.std.specs.Prelude.{◌≡◌, ℕ, zero, suc, ◌+◌, List, [], ◌�
 use Rattle.std.specs.List.{AllByRecursion}
 use Rattle.std.specs.declared.vec.Vec.{Vec}
 use Rattle.std.specs.declared.alloc.Global.{Global}
-use Rattle.code_pairs.specs.Tables.{Table}
-use Rattle.code_table.specs.Ascii.{is_ascii}
-use Rattle.code_table.specs.Images.{root_of, page_count}
-use Rattle.code_table.specs.declared.image.Layout.{Layout}
+use Rattle.code_table.specs.Layouts.{layout_of}
+use Rattle.code_table.specs.declared.layout.Layout.{Layout}
 use Rattle.history_core.specs.History.{History}
 use Rattle.outside.specs.Faults.{RoseBy}
 use Rattle.outside.specs.Moments.{Holdings}
@@ -44,10 +42,6 @@ blamed_in (Closing number) = 0
 abbrev pub blame : List Entry → ℕ
 blame [] = 0
 blame (e ∷ es) = blamed_in e.event + blame es
-
--- The parts of a table's page image.
-abbrev pub layout_of : Table → Layout
-layout_of t = record { root = root_of t; pages = page_count t; ascii = is_ascii t }
 
 -- The parts that are kept of the images of a module's tables.
 abbrev pub layouts_at : List (Vec Layout Global) → ℕ → List Layout

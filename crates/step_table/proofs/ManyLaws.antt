@@ -6,23 +6,7 @@ use Rattle.std.proofs.lemmas.List.{take_more, take_more_set, drop-drop}
 use Rattle.std.proofs.lemmas.Grind.{flat_map-append}
 use Rattle.code_pairs.specs.Tables.{Table, code_of}
 use Rattle.step_table.specs.Sets.{IsInTable, spelled}
-use Rattle.step_table.specs.Many.{AreCodesOf}
-
-codes_more : (table : Table) (ps : List ℕ) (cs : List (List ℕ)) (p : ℕ) (c : List ℕ) → AreCodesOf table ps cs → code_of table p ≡ Some c →
-    AreCodesOf table (ps ++ p ∷ []) (cs ++ c ∷ [])
-codes_more table [] [] p c are is = (is, tt)
-codes_more table [] (d ∷ cs) p c are is = absurd are
-codes_more table (q ∷ ps) [] p c are is = absurd are
-codes_more table (q ∷ ps) (d ∷ cs) p c are is = (are.0, codes_more table ps cs p c are.1 is)
-
--- one code more in a loop that puts each behind the last
-pub codes_next : (table : Table) (points : List ℕ) (list : List (List ℕ)) (i d : ℕ) (c : List ℕ) → i < length points → i < length list →
-    AreCodesOf table (take i points) (take i list) → code_of table (get_or points i d) ≡ Some c →
-    AreCodesOf table (take (i + 1) points) (take (i + 1) (slice_set list i c))
-codes_next table points list i d c lt room are is =
-    subst (λ ps. AreCodesOf table ps (take (i + 1) (slice_set list i c))) (sym (take_more points i d lt))
-    (subst (λ cs. AreCodesOf table (take i points ++ get_or points i d ∷ []) cs) (sym (take_more_set list i c room))
-    (codes_more table (take i points) (take i list) (get_or points i d) c are is))
+use Rattle.code_table.specs.Eights.{AreCodesOf}
 
 -- the codes spell the points, which the table has
 pub codes_spell : (table : Table) (ps : List ℕ) (cs : List (List ℕ)) → AreCodesOf table ps cs → flat_map (λ (c : List ℕ). c) cs ≡ flat_map (spelled table) ps

@@ -1,14 +1,8 @@
 -- The codes of several points.
-use Rattle.std.specs.Prelude.{◌≡◌, ℕ, ◌+◌, ◌≤◌, List, [], ◌∷◌, ◌++◌, length, take, drop, Some}
+use Rattle.std.specs.Prelude.{◌≡◌, ℕ, ◌+◌, ◌≤◌, List, ◌++◌, length, take, drop}
 use Rattle.std.specs.List.{AllByRecursion, flat_map}
-use Rattle.code_pairs.specs.Tables.{Table, code_of}
+use Rattle.code_pairs.specs.Tables.{Table}
 use Rattle.step_table.specs.Sets.{IsInTable, spelled}
-
--- each of the codes is that of the point at its place
-abbrev pub AreCodesOf : Table → List ℕ → List (List ℕ) → Type 0
-AreCodesOf table [] [] = Unit {0}
-AreCodesOf table (p ∷ ps) (c ∷ cs) = (code_of table p ≡ Some c) × AreCodesOf table ps cs
-AreCodesOf table _ _ = ⊥
 
 -- the table has these points, and n bytes, which spell them, were put behind the first `at` bytes of old, which
 -- gives new

@@ -4,41 +4,12 @@ ghost use Rattle.std.specs.Prelude.{◌≡◌, ℕ, List, ◌+◌, ◌*◌, ◌<
 ghost use Rattle.std.specs.List.{AllByRecursion, flat_map};
 ghost use Rattle.code_pairs.specs.Tables.{table_at};
 ghost use Rattle.code_table.specs.HandsBack.{HandsBack};
-ghost use Rattle.step_table.specs.Many.{AreCodesOf, ArePut};
+ghost use Rattle.step_table.specs.Many.{ArePut};
 ghost use Rattle.step_table.specs.Sets.{IsInTable};
 
 use crate::put::put;
 use code_pairs::Code;
-use code_table::{Lookup, hand_back_twice};
-
-/// The codes of eight points.
-#[derive(Clone, Copy)]
-struct Codes {
-    list: [Code; 8],
-}
-
-/// The codes of eight points; `None` exactly where the table lacks one of them.
-#[inline(always)]
-fn codes_for<T: Lookup>(tables: &mut T, table: u32, points: &[u16]) -> Option<Codes>
-    requires ready { T.ready tables.old }
-    requires within { table < length (T.tables tables.old) }
-    requires eight { length points.now ≡ 8 }
-    ensures long { IfSome result (λ c. length c.list ≡ 8) }
-    ensures codes { let t = table_at (T.tables tables.old) table in
-        MatchOption result (¬ (AllByRecursion (IsInTable t) points.now))
-        (λ c. AreCodesOf t points.now c.list) }
-    ensures back { HandsBack T.tables T.ready T.kept tables.old tables.new }
-{
-    hand_back_twice::<T>();
-    let mut list = [Code::new(1, 0); 8];
-    let mut i = 0;
-    while i < 8 {
-        let code = tables.bytes(table, points[i] as u32)?;
-        list[i] = code;
-        i += 1;
-    }
-    Some(Codes { list })
-}
+use code_table::Lookup;
 
 /// Puts codes behind the first `at` bytes of `output`, one behind another.
 #[inline(always)]
@@ -75,6 +46,6 @@ pub fn write_eight<T: Lookup>(
         (ArePut t points at output.old output.new) }
     ensures back { HandsBack T.tables T.ready T.kept tables.old tables.new }
 {
-    let codes = codes_for(tables, table, &points)?;
+    let codes = tables.codes(table, &points)?;
     Some(put_codes(&codes.list, output, at))
 }

@@ -10,8 +10,9 @@ use Rattle.std.specs.Str.{bytes_eq}
 use Rattle.std.proofs.lemmas.Slice.Eq.{bytes_eq-Decides}
 use Rattle.std.proofs.lemmas.Bool.{ltb-true}
 use Rattle.code_pairs.specs.Tables.{Table}
-use Rattle.code_table.specs.Ascii.{is_ascii}
-use Rattle.code_table.specs.Images.{page_count, root_of, image}
+use Rattle.code_table.specs.Images.{page_count, image}
+use Rattle.code_table.specs.Layouts.{layout_of}
+use Rattle.code_table.specs.declared.layout.Layout.{Layout}
 use Rattle.history_core.specs.History.{History}
 use Rattle.history_core.specs.Rule.{last_fill}
 use Rattle.page_store.specs.Holdings.{Holding, AreApart, AreFilled}
@@ -149,19 +150,18 @@ next_page xs n e = ap (λ (l : List ℕ). l ++ n ∷ []) e
     more n = omega arith
 
 -- the pin of the table, where the number holds it
-pub pin_is : (t : Table) (log : History Taken) (n words root : ℕ) (ascii : Bool) (pages : List ℕ)
+pub pin_is : (t : Table) (log : History Taken) (n words : ℕ) (layout : Layout) (pages : List ℕ)
     → has_taken n log ≡ true → ((page : ℕ) → page < page_count t → IsWithin words page)
-    → pages ≡ pages_of t → root ≡ root_of t → ascii ≡ is_ascii t
-    → IsPin (held t log n) words pages root ascii
-pin_is t log n words root ascii pages taken room is root_is half =
-    subst (λ (hs : List Holding). IsPin hs words pages root ascii)
+    → pages ≡ pages_of t → layout ≡ layout_of t
+    → IsPin (held t log n) words pages layout
+pin_is t log n words layout pages taken room is parts =
+    subst (λ (hs : List Holding). IsPin hs words pages layout)
     (ap (λ (b : Bool). held_where b t) (sym taken))
-    (subst (λ (ps : List ℕ). IsPin (held_where true t) words ps root ascii) (sym is) record {
+    (subst (λ (ps : List ℕ). IsPin (held_where true t) words ps layout) (sym is) record {
       held = ap (λ (b : Bool). b || false) same;
       inside = all_within 0 (page_count t) words
           (λ page lt. room page (below page (page_count t) lt));
-      decode = root_is ∙ ap root_of (sym table);
-      half = half ∙ ap is_ascii (sym table);
+      parts = parts ∙ ap layout_of (sym table);
     })
   where
     below : (p n : ℕ) → p < 0 + n → p < n

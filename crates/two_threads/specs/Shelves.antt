@@ -3,8 +3,8 @@ use Rattle.std.specs.Prelude.{◌≡◌, ◌⊎◌, ℕ, ◌*◌, ◌<◌, ◌^�
 use Rattle.std.specs.Prelude.{if◌then◌else◌, nat_lt, List, [], ◌∷◌, slice_index, Option, Some, None}
 use Rattle.std.specs.List.{range_with_len}
 use Rattle.code_pairs.specs.Tables.{Table, HasPoints, IsWellFormed}
-use Rattle.code_table.specs.Ascii.{is_ascii}
-use Rattle.code_table.specs.Images.{page_count, root_of, image}
+use Rattle.code_table.specs.Images.{page_count, image}
+use Rattle.code_table.specs.Layouts.{layout_of}
 use Rattle.history_core.specs.History.{History}
 use Rattle.history_core.specs.Tokens.{words_of}
 use Rattle.history_core.specs.declared.tokens.Hall.{Hall}
@@ -61,8 +61,7 @@ IsThere table log fills =
 -- The pin of the table in its pages.
 pub record IsPinOf (table : Table) (pin : Pin) : Type 0 where
   pub pages : pin.pages.items ≡ pages_of table
-  pub root : pin.root ≡ root_of table
-  pub ascii : pin.ascii ≡ is_ascii table
+  pub parts : pin.layout ≡ layout_of table
 
 -- One pin, of the table.
 abbrev pub IsOnePin : Table → List Pin → Type 0

@@ -34,11 +34,9 @@ pub fn first_pages(alloc: Global, table: &CodeTable) -> Result<Vec<u32>, AllocEr
 pub fn pin_of(alloc: Global, table: &CodeTable) -> Result<Pin, AllocError>
     ensures { IfOk result (IsPinOf table.now) }
 {
-    let layout = table.layout();
     Ok(Pin {
         pages: first_pages(alloc, table)?,
-        root: layout.root,
-        ascii: layout.ascii,
+        layout: table.layout(),
     })
 }
 

@@ -1,6 +1,5 @@
-use Rattle.std.proofs.Common.{ℕ, List, sym, subst, ◌∙◌}
+use Rattle.std.proofs.Common.{sym, subst, ◌∙◌}
 use Rattle.module_graph.specs.Graph.{Shape}
-use Rattle.runtime_histories.specs.declared.refusals.Asked.{Asked}
 use Rattle.pair_openings.specs.Knowing.{IsKnown, IsLeastFor}
 use Rattle.conversion_book.proofs.Opening.{begun_least}
 use Rattle.conversion_book.proofs.knowing.begin_again.Goals as goal

@@ -1,5 +1,5 @@
 use Rattle.std.proofs.Common.{◌≡◌, ◌++◌, map, drop}
-use Rattle.runtime_room.specs.Desks.{layout_of}
+use Rattle.code_table.specs.Layouts.{layout_of}
 use Rattle.desk_openings.proofs.layouts.all_parts.Given as goal
 
 abbrev pub invariant-loop-table : goal.invariant-loop-table

@@ -1,7 +1,7 @@
 use Rattle.std.proofs.Common.{get_or, ◌≡◌, ◌<◌, ◌∙◌, ap, length, map, arith}
 use Rattle.runtime_histories.specs.declared.loads.Load.{Load}
 use Rattle.runtime_histories.specs.Entries.{loaded_of}
-use Rattle.runtime_room.specs.Desks.{layout_of}
+use Rattle.code_table.specs.Layouts.{layout_of}
 use Rattle.desk_openings.proofs.Keeping.{keeping_next, keeping_others, keeps_all, loaded_at, tables_at, length-loaded}
 use Rattle.desk_openings.proofs.layouts.keep_layouts.Goals as goal
 

@@ -2,7 +2,7 @@ use Rattle.std.proofs.Common.{◌≡◌, ◌∙◌, ◌++◌, ◌∷◌, [], ap,
 use Rattle.std.specs.declared.vec.Vec.{Vec}
 use Rattle.std.specs.declared.alloc.Global.{Global}
 use Rattle.std.proofs.lemmas.Grind.{common_steps}
-use Rattle.code_table.specs.declared.image.Layout.{Layout}
+use Rattle.code_table.specs.declared.layout.Layout.{Layout}
 use Rattle.runtime_room.specs.Desks.{layouts_at}
 use Rattle.desk_openings.proofs.Keeping.{lengthened}
 use Rattle.desk_openings.proofs.layouts.lengthen.Goals as goal

@@ -3,7 +3,7 @@ use Rattle.std.specs.List.{AllByRecursion}
 use Rattle.std.specs.declared.vec.Vec.{Vec}
 use Rattle.std.specs.declared.alloc.Global.{Global}
 use Rattle.code_pairs.specs.Tables.{HasPoints}
-use Rattle.code_table.specs.declared.image.Layout.{Layout}
+use Rattle.code_table.specs.declared.layout.Layout.{Layout}
 use Rattle.module_counts.specs.Stocks.{lists}
 use Rattle.runtime_histories.specs.declared.loads.Load.{Load}
 use Rattle.runtime_histories.specs.Entries.{deeds, loaded_of}

@@ -13,8 +13,8 @@ look_ups_first-requires-clause-ready c =
     let p = one_pin (table_of c.args.hall.now) c.args.pins.now c.requires.pins in record {
       own = c.requires.own;
       held = subst (λ l. ArePins (held t log n) (words_of c.args.hall.now) l) (sym p.alone) (
-        pin_is t log n (words_of c.args.hall.now) p.pin.root p.pin.ascii p.pin.pages.items c.requires.taken
-            c.requires.hall.room p.is.pages p.is.root p.is.ascii,
+        pin_is t log n (words_of c.args.hall.now) p.pin.layout p.pin.pages.items c.requires.taken
+            c.requires.hall.room p.is.pages p.is.parts,
         tt,
       );
     }

@@ -6,7 +6,7 @@ use Rattle.std.proofs.lemmas.List.{take_more_set, length-take-le, take-take}
 use Rattle.code_pairs.specs.Tables.{Table, IsCode, IsWellFormed}
 use Rattle.code_table.specs.Looks.{look_of, IsLook}
 use Rattle.code_table.specs.declared.lookup.Look.TheVariants.{Point}
-use Rattle.step_table.specs.Eight.{IsOneAt, AreCodes}
+use Rattle.code_table.specs.Eights.{IsOneAt, AreCodes}
 
 -- what a look-up in four bytes tells of the code there
 pub one_is : (table : Table) → IsWellFormed table → (bytes four : List ℕ) (at point used : ℕ) → four ≡ take 4 (drop at bytes) →
