@@ -6,7 +6,9 @@
 #
 # PROGRAM is crates/iconv_batch/out/iconv_batch where none is given. RUNS=N measures each row N times (5 where it isn't
 # set), turn and turn about; a figure is the least of them. From each figure that of the same list over empty files is
-# taken, since a run with workers begins with the words of all pages. A list has four jobs of one file of 16 MiB, with
+# taken, since a run with workers begins with the words of all pages. The last three columns are the time of the
+# program's own instructions alone: a run with a worker keeps all outputs until its end, and has the kernel clear their
+# pages anew for each job, which is no part of a conversion. A list has four jobs of one file of 16 MiB, with
 # the tables of the system's package locales; the files stand in a folder of TMPDIR, best in memory (/dev/shm).
 . "$(dirname "$0")/setup.sh"
 need python3 iconv gzip
