@@ -5,10 +5,10 @@
 
 Each run has a configuration, charmaps, jobs and inputs of its own, most of them with something broken in them; one in
 ten is of the short form. With no workers its files, report, status and journal have to be those of the second reading;
-with workers its files, report and status, and its journal has to be a legal history of the same jobs. Before them
-come lists of words with something wrong, and from 100 runs on two on input that the program makes itself. RUNS is
-1,000 where none is given, and the runs of a seed are the same each time. What differs is told, its folder is kept, and the status
-is then 1.
+with workers its journal has to be a legal history of the same jobs, and the rest as said by the second reading, but
+for the jobs that the report and the journal tell as refused by a full store. Before them come lists of words with
+something wrong, and from 100 runs on two on input that the program makes itself. RUNS is 1,000 where none is given,
+and the runs of a seed are the same each time. What differs is told, its folder is kept, and the status is then 1.
 """
 import os
 import random
@@ -290,7 +290,7 @@ def try_run(program, dice, folder):
     """What differs in a run, in lines."""
     modules, bindings, jobs, charmaps, files = scene(dice)
     pages = 16384 if dice.random() < 0.6 else dice.randrange(0, 60)
-    workers = 0 if pages != 16384 or dice.random() < 0.7 else dice.choice([1, 2, 4])
+    workers = 0 if dice.random() < 0.7 else dice.choice([1, 2, 4, 9])
     top = {"modules": modules, "bindings": bindings, "jobs": jobs}
     if dice.random() < 0.02:
         del top[dice.choice(list(top))]
@@ -305,7 +305,12 @@ def try_run(program, dice, folder):
         file.write(" ".join(words) + "\n")
     ran = subprocess.run([program, *words], cwd=f"{folder}/in", capture_output=True, timeout=60, check=False)
     texts = [top.get(it) for it in ("modules", "bindings", "jobs")]
-    status, report, after, journal = reading.run(*texts, charmaps, files, pages)
+    if workers == 0:
+        status, report, after, journal = reading.run(*texts, charmaps, files, pages)
+    else:
+        said = enumerate(ran.stdout.decode().splitlines(), 1)
+        full = {at: line.split(": ", 1)[1] for at, line in said if line.startswith(f"{at}: store full ")}
+        status, report, after, journal = reading.run(*texts, charmaps, files, reading.MOST_PAIRS, full)
     journal_file = f"{folder}/journal"
     told = None
     if os.path.exists(journal_file):

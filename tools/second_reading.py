@@ -565,7 +565,7 @@ def taken(jobs, files):
     return inputs
 
 
-def run(modules, bindings, jobs, charmaps, files, pages):
+def run(modules, bindings, jobs, charmaps, files, pages, full=()):
     """What a run of no workers leaves: the status, what it writes, the files, and the journal."""
     try:
         for which, text in (("modules", modules), ("bindings", bindings), ("jobs", jobs)):
@@ -578,14 +578,15 @@ def run(modules, bindings, jobs, charmaps, files, pages):
         conf, jobs = Conf(modules, bindings), jobs_of(jobs)
     except Refused as why:
         return 3, f"{why}\n".encode(), dict(files), None
-    return run_jobs(conf, jobs, charmaps, files, pages)
+    return run_jobs(conf, jobs, charmaps, files, pages, full)
 
 
-def run_jobs(conf, jobs, charmaps, files, pages):
-    """What the jobs of a run of no workers leave."""
+def run_jobs(conf, jobs, charmaps, files, pages, full=()):
+    """What the jobs of a run of no workers leave. The jobs of full, by number, are refused with that text where their
+    pair could be opened: which these are is by turns with workers, and the journal tells whether they may be."""
     history, after, outcomes, written = History(conf, charmaps, pages), dict(files), [], 0
     inputs = taken(jobs, files)
-    for (source, target, _, output), text in zip(jobs, inputs):
+    for place, ((source, target, _, output), text) in enumerate(zip(jobs, inputs), 1):
         if isinstance(text, str):
             outcomes.append(text)
             continue
@@ -593,8 +594,11 @@ def run_jobs(conf, jobs, charmaps, files, pages):
         if isinstance(chain, str):
             outcomes.append(chain)
             continue
-        verdict, at, made = chain.whole(text)
         history.close(1, number)
+        if place in full:
+            outcomes.append(full[place])
+            continue
+        verdict, at, made = chain.whole(text)
         outcomes.append("ok" if verdict == "done" else f"{verdict} at {at}")
         after[output.decode()] = made
         written += len(made)
